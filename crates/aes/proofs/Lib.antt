@@ -1,0 +1,7 @@
+pub mod Xor
+pub mod Listed
+pub mod FieldLaws
+pub mod Powers
+pub mod Inverses
+pub mod Boxes
+pub mod Unique

@@ -1,0 +1,40 @@
+-- Tables: a table of f has f k at k. That a stored table is the table of f, antt computes.
+-- Assumes nothing.
+use mathlib.Core.Path.{_≡_, refl, ap, ap₂, sym, _∙_}
+use mathlib.Core.List.{List, [], _∷_}
+use Prim.Native.Nat.{ℕ, zero, suc, _+_, _<_}
+use native.Mathlib.Nat.{add-zero, zero-add, add-suc, suc-add}
+use native.Mathlib.Omega.{arith}
+use lib.ListN.{length, getD}
+use Rattle.aes.specs.Byte.{listed, table}
+
+listed-at : (f : ℕ → ℕ) (i n k : ℕ) → k < n → getD (listed f i n) k 0 ≡ f (i + k)
+listed-at f i zero k h = absurd (omega arith)
+listed-at f i (suc n) zero h = rw add-zero
+listed-at f i (suc n) (suc k) h = rw (add-suc, ← suc-add) (listed-at f (suc i) n k (omega arith))
+
+pub table-at : (f : ℕ → ℕ) (n k : ℕ) → k < n → getD (table f n) k 0 ≡ f k
+unfolding table
+table-at f n k h = rw zero-add at (listed-at f 0 n k h)
+
+listed-length : (f : ℕ → ℕ) (i n : ℕ) → length (listed f i n) ≡ n
+listed-length f i zero = refl
+listed-length f i (suc n) = ap suc (listed-length f (suc i) n)
+
+pub table-length : (f : ℕ → ℕ) (n : ℕ) → length (table f n) ≡ n
+unfolding table
+table-length f n = listed-length f 0 n
+
+listed-same : (f g : ℕ → ℕ) (i n : ℕ) → ((k : ℕ) → k < n → f (i + k) ≡ g (i + k)) → listed f i n ≡ listed g i n
+listed-same f g i zero h = refl
+listed-same f g i (suc n) h =
+    ap₂ (_∷_) (rw add-zero at (h 0 (omega arith)))
+    (listed-same f g (suc i) n (λ k l. rw (suc-add, ← add-suc) (h (suc k) (omega arith))))
+
+-- two functions that agree below n have one table, and the reverse
+pub table-same : (f g : ℕ → ℕ) (n : ℕ) → ((k : ℕ) → k < n → f k ≡ g k) → table f n ≡ table g n
+unfolding table
+table-same f g n h = listed-same f g 0 n (λ k l. rw zero-add (h k l))
+
+pub agree : (f g : ℕ → ℕ) (n : ℕ) → table f n ≡ table g n → (k : ℕ) → k < n → f k ≡ g k
+agree f g n e k h = sym (table-at f n k h) ∙ ap (λ (l : List ℕ). getD l k 0) e ∙ table-at g n k h

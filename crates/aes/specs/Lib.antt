@@ -1,0 +1,5 @@
+pub mod Byte
+pub mod Field
+pub mod Box
+pub mod Reply
+pub mod Calls

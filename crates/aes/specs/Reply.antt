@@ -1,0 +1,60 @@
+-- The replies: each number's meaning in a line, and how a call's checks decide its answer.
+-- Assumes nothing.
+use mathlib.Core.Bool.{Bool, cond, not, _&&_}
+use mathlib.Core.List.{List, [], _∷_}
+use Prim.Native.Nat.{ℕ, _+_, _*_}
+use lib.Dec.{eqb, leb}
+use lib.ListN.{length, getD}
+
+infix 20 _else_
+
+-- what must hold, and the reply where it does not
+pub data Check : Type 0 where
+  _else_ : Bool → ℕ → Check
+
+-- The first check that fails gives its reply beside what was there before; past all of them the reply is 0, beside what
+-- was done.
+abbrev pub answer : {A : Type 0} → List Check → A → A → ℕ × A
+answer [] before done = (0, done)
+answer ((holds else reply) ∷ checks) before done = cond holds (answer checks before done) (reply, before)
+
+abbrev pub isKey : List ℕ → Check
+isKey key = eqb (length key) 32 else 1
+
+abbrev pub isSchedule : List ℕ → Check
+isSchedule schedule = eqb (length schedule) 240 else 2
+
+abbrev pub isInput : List ℕ → Check
+isInput input = eqb (length input) 16 else 3
+
+abbrev pub isOutput : List ℕ → Check
+isOutput output = eqb (length output) 16 else 4
+
+abbrev pub isMaskTable : List ℕ → Check
+isMaskTable masks = eqb (length masks) 16 else 5
+
+abbrev pub isOffset : ℕ → Check
+isOffset offset = leb offset 15 else 6
+
+abbrev pub isForm : ℕ → Check
+isForm form = leb form 1 else 7
+
+abbrev pub isRecord : List ℕ → Check
+isRecord states = eqb (length states) 1136 else 8
+
+abbrev pub hasLogarithm : ℕ → Check
+hasLogarithm b = not (eqb b 0) else 9
+
+abbrev pub isPower : ℕ → Check
+isPower n = leb n 254 else 10
+
+abbrev pub isSheet : List ℕ → Check
+isSheet sheet = eqb (length sheet) 21 else 11
+
+-- the mark "MSK"
+abbrev pub isMarked : List ℕ → Check
+isMarked sheet = eqb (getD sheet 0 0) 0x4d && eqb (getD sheet 1 0) 0x53 && eqb (getD sheet 2 0) 0x4b else 12
+
+-- a version in two bytes, the higher first
+abbrev pub isVersion : List ℕ → Check
+isVersion sheet = eqb (getD sheet 3 0 * 256 + getD sheet 4 0) 1 else 13
