@@ -8,51 +8,39 @@ use lib.ListN.{getD}
 use Rattle.aes.specs.Byte.{fromBits, table, place}
 use Rattle.aes.specs.Field.{xTimes, inverse}
 use Rattle.aes.specs.Box.{affine, sBox, invSBox}
-use Rattle.aes.proofs.Listed.{table-at, table-same, agree}
-use Rattle.aes.proofs.Powers.{tripled, logOf, tripled-at, log-is}
-use Rattle.aes.proofs.Inverses.{inverse-zero, inverse-by-logarithm}
+use Rattle.aes.proofs.Listed.{Inverted, table-at, table-same, agree, place-below, place-right, place-only}
+use Rattle.aes.proofs.Powers.{powers, powers-at, logarithm-is}
+use Rattle.aes.proofs.Inverses.{inverse-byte, inverse-zero, inverse-by-logarithm}
 
 -- the inverse, by the powers of 03
-unfoldable pub reciprocal : ℕ → ℕ
-reciprocal zero = 0
-reciprocal (suc k) = getD (tripled 255 1) ((255 - logOf (suc k)) % 255) 0
+unfoldable pub reciprocal : List ℕ → ℕ → ℕ
+reciprocal l zero = 0
+reciprocal l (suc k) = getD l ((255 - place (suc k) l) % 255) 0
 
-reciprocal-is : (b : ℕ) → b < 256 → inverse b ≡ reciprocal b
+reciprocal-is : (b : ℕ) → b < 256 → inverse b ≡ reciprocal powers b
 unfolding reciprocal
 reciprocal-is zero h = inverse-zero
 reciprocal-is (suc k) h =
-    sym (tripled-at ((255 - logOf (suc k)) % 255) (omega arith) ∙ rw (← log-is (suc k)) (inverse-by-logarithm (suc k) (omega arith) h))
+    sym (powers-at ((255 - place (suc k) powers) % 255) (omega arith) ∙ rw (← logarithm-is (suc k)) (inverse-by-logarithm (suc k) (omega arith) h))
 
--- the table of S
+-- the table of S, as antt works it out
 unfoldable pub boxes : List ℕ
-unfolding table fromBits affine reciprocal logOf
-boxes = table (λ b. affine (reciprocal b)) 256
+unfolding table fromBits affine place reciprocal powers
+boxes = let l : List ℕ = powers in table (λ b. affine (reciprocal l b)) 256
 
 pub boxes-are : table sBox 256 ≡ boxes
 unfolding sBox boxes
-boxes-are = table-same sBox (λ b. affine (reciprocal b)) 256 (λ b h. ap affine (reciprocal-is b h))
+boxes-are = table-same sBox (λ b. affine (reciprocal powers b)) 256 (λ b h. ap affine (reciprocal-is b h))
 
 -- the table of its inverse
-pub inv-boxes-are : table invSBox 256 ≡ table (λ b. place b boxes) 256
+pub inv-boxes-are : table invSBox 256 ≡ (let l : List ℕ = boxes in table (λ b. place b l) 256)
 unfolding invSBox
 inv-boxes-are = ap (λ (l : List ℕ). table (λ b. place b l) 256) boxes-are
 
--- Tests over all 256 entries: each byte stands in the box, where the inverse says, and none stands there twice.
-box-byte : (b : ℕ) → b < 256 → getD boxes b 0 / 256 ≡ 0
+-- the test over all 256 entries: each byte stands in the box, and once
+inverted : Inverted (λ b. b) 256 boxes
 unfolding boxes
-box-byte = let l : List ℕ = boxes in agree (λ b. getD l b 0 / 256) (λ b. 0) 256 refl
-
-box-below : (b : ℕ) → b < 256 → place b boxes / 256 ≡ 0
-unfolding boxes place
-box-below = let l : List ℕ = boxes in agree (λ b. place b l / 256) (λ b. 0) 256 refl
-
-box-stands : (b : ℕ) → b < 256 → getD boxes (place b boxes) 0 ≡ b
-unfolding boxes place
-box-stands = let l : List ℕ = boxes in agree (λ b. getD l (place b l) 0) (λ b. b) 256 refl
-
-box-once : (b : ℕ) → b < 256 → place (getD boxes b 0) boxes ≡ b
-unfolding boxes place
-box-once = let l : List ℕ = boxes in agree (λ b. place (getD l b 0) l) (λ b. b) 256 refl
+inverted = (refl, refl, refl)
 
 box-at : (b : ℕ) → b < 256 → getD boxes b 0 ≡ sBox b
 box-at b h = rw boxes-are at (table-at sBox 256 b h)
@@ -61,14 +49,19 @@ place-is : (b : ℕ) → invSBox b ≡ place b boxes
 unfolding invSBox
 place-is b = ap (place b) boxes-are
 
-pub sBox-byte : (b : ℕ) → b < 256 → sBox b < 256
-sBox-byte b h = rw (← box-at b h) (omega (arith, box-byte b h))
-
 pub invSBox-byte : (b : ℕ) → b < 256 → invSBox b < 256
-invSBox-byte b h = rw (place-is b) (omega (arith, box-below b h))
+invSBox-byte b h = rw (place-is b) (place-below (λ b. b) 256 boxes inverted b h)
 
 pub sBox-invSBox : (b : ℕ) → b < 256 → sBox (invSBox b) ≡ b
-sBox-invSBox b h = sym (box-at (invSBox b) (invSBox-byte b h)) ∙ rw (place-is b) (box-stands b h)
+sBox-invSBox b h = sym (box-at (invSBox b) (invSBox-byte b h)) ∙ rw (place-is b) (place-right (λ b. b) 256 boxes inverted b h)
 
 pub invSBox-sBox : (b : ℕ) → b < 256 → invSBox (sBox b) ≡ b
-invSBox-sBox b h = rw (place-is (sBox b), ← box-at b h) (box-once b h)
+invSBox-sBox b h = rw (place-is (sBox b), ← box-at b h) (place-only (λ b. b) 256 boxes inverted b h)
+
+affine-fits : (b : ℕ) → b < 256 → affine b / 256 ≡ 0
+unfolding table fromBits affine
+affine-fits = agree (λ b. affine b / 256) (λ b. 0) 256 refl
+
+pub sBox-byte : (b : ℕ) → b < 256 → sBox b < 256
+unfolding sBox
+sBox-byte b h = omega (arith, affine-fits (inverse b) (inverse-byte b h))

@@ -7,7 +7,7 @@ use native.Mathlib.Omega.{arith}
 use lib.Bits.{xor-shr, xor-mod, xor-block}
 use lib.Dec.{lit<}
 use Rattle.aes.specs.Byte.{_⊕_, table}
-use Rattle.aes.specs.Field.{xTimes, times, _•_}
+use Rattle.aes.specs.Field.{modulus, xTimes, times, _•_}
 use Rattle.aes.proofs.Xor.{low, sums, xor-self, xor-zero, xor-byte}
 use Rattle.aes.proofs.Listed.{agree}
 
@@ -35,7 +35,7 @@ twice a b = sym (simp add-zero at (xor-block 1 a b 0 0 (lit< tt) (lit< tt)))
 pub xTimes-xor : (a b : ℕ) → xTimes (a ⊕ b) ≡ xTimes a ⊕ xTimes b
 unfolding xTimes
 xTimes-xor a b =
-    rw (twice a b, xor-shr a b 7, xor-mod (a / 128) (b / 128) 1, bit-left 0x11b (a / 128 % 2) (b / 128 % 2) (low _) (low _))
+    rw (twice a b, xor-shr a b 7, xor-mod (a / 128) (b / 128) 1, bit-left modulus (a / 128 % 2) (b / 128 % 2) (low _) (low _))
     (simp sums)
 
 times-xor-left : (n a b c : ℕ) → times n (a ⊕ b) c ≡ times n a c ⊕ times n b c

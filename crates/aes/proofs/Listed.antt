@@ -2,11 +2,12 @@
 -- Assumes nothing.
 use mathlib.Core.Path.{_≡_, refl, ap, ap₂, sym, _∙_}
 use mathlib.Core.List.{List, [], _∷_}
-use Prim.Native.Nat.{ℕ, zero, suc, _+_, _<_}
-use native.Mathlib.Nat.{add-zero, zero-add, add-suc, suc-add}
+use Prim.Native.Nat.{ℕ, zero, suc, _+_, _/_, _<_}
+use native.Mathlib.Nat.{add-zero, zero-add, add-suc, suc-add, one-mul, div-lt-iff-lt-mul}
 use native.Mathlib.Omega.{arith}
+use lib.Dec.{lit<}
 use lib.ListN.{length, getD}
-use Rattle.aes.specs.Byte.{listed, table}
+use Rattle.aes.specs.Byte.{listed, table, place}
 
 listed-at : (f : ℕ → ℕ) (i n k : ℕ) → k < n → getD (listed f i n) k 0 ≡ f (i + k)
 listed-at f i zero k h = absurd (omega arith)
@@ -38,3 +39,21 @@ table-same f g n h = listed-same f g 0 n (λ k l. rw zero-add (h k l))
 
 pub agree : (f g : ℕ → ℕ) (n : ℕ) → table f n ≡ table g n → (k : ℕ) → k < n → f k ≡ g k
 agree f g n e k h = sym (table-at f n k h) ∙ ap (λ (l : List ℕ). getD l k 0) e ∙ table-at g n k h
+
+-- Tests over a table of n entries: v 0 to v (n - 1) each have a place below n, stand there, and no entry stands twice.
+abbrev pub Inverted : (ℕ → ℕ) → ℕ → List ℕ → Type 0
+Inverted v n l =
+    (table (λ k. place (v k) l / n) n ≡ table (λ k. 0) n) × (table (λ k. getD l (place (v k) l) 0) n ≡ table v n)
+    × (table (λ k. place (getD l k 0) l) n ≡ table (λ k. k) n)
+
+module _ (v : ℕ → ℕ) (n : ℕ) (l : List ℕ) (tests : Inverted v n l) (k : ℕ) (h : k < n) where
+  pub place-below : place (v k) l < n
+  place-below =
+      rw one-mul at
+      (div-lt-iff-lt-mul {k = n} {x = place (v k) l} {y = 1} (omega arith) .0 (rw (agree (λ k. place (v k) l / n) (λ k. 0) n (tests .0) k h) (lit< tt)))
+
+  pub place-right : getD l (place (v k) l) 0 ≡ v k
+  place-right = agree (λ k. getD l (place (v k) l) 0) v n (tests .1) k h
+
+  pub place-only : place (getD l k 0) l ≡ k
+  place-only = agree (λ k. place (getD l k 0) l) (λ k. k) n (tests .2) k h

@@ -9,7 +9,7 @@ use lib.Dec.{lit<}
 use lib.ListN.{getD}
 use Rattle.aes.specs.Byte.{_⊕_, listed, table, place}
 use Rattle.aes.specs.Field.{xTimes, times, _•_, raise, power, logarithm, logarithms}
-use Rattle.aes.proofs.Listed.{table-at, table-same, agree}
+use Rattle.aes.proofs.Listed.{Inverted, table-at, table-same, place-below, place-right, place-only}
 use Rattle.aes.proofs.FieldLaws.{product-xor-left, product-one, product-two, product-byte, product-assoc}
 
 pub raise-byte : (b n : ℕ) → b < 256 → raise b n < 256
@@ -64,59 +64,50 @@ listed-tripled i zero = refl
 listed-tripled i (suc n) = ap (λ (l : List ℕ). power i ∷ l) (listed-tripled (suc i) n ∙ ap (tripled n) (product-three (power i) (power-byte i)))
 
 -- the table of powers, as antt works it out
-pub powers-are : table power 255 ≡ tripled 255 1
-unfolding table power raise
+unfoldable pub powers : List ℕ
+unfolding tripled
+powers = tripled 255 1
+
+pub powers-are : table power 255 ≡ powers
+unfolding table power raise powers
 powers-are = listed-tripled 0 255
 
--- The logarithm as antt works it out, and three tests over all 255 powers: each of 01 to ff stands among them, where its
--- logarithm says, and none stands there twice.
-unfoldable pub logOf : ℕ → ℕ
-unfolding place tripled
-logOf b = place b (tripled 255 1)
+pub powers-at : (n : ℕ) → n < 255 → getD powers n 0 ≡ power n
+powers-at n h = rw powers-are at (table-at power 255 n h)
 
-pub log-is : (b : ℕ) → logarithm b ≡ logOf b
-unfolding logarithm logOf
-log-is b = ap (place b) powers-are
+pub logarithm-is : (b : ℕ) → logarithm b ≡ place b powers
+unfolding logarithm
+logarithm-is b = ap (place b) powers-are
 
--- the table of logarithms, as antt works it out
-pub logarithms-are : logarithms ≡ table (λ k. logOf (k + 1)) 255
-logarithms-are = table-same (λ k. logarithm (k + 1)) (λ k. logOf (k + 1)) 255 (λ k h. log-is (k + 1))
-
-log-below : (k : ℕ) → k < 255 → logOf (suc k) / 255 ≡ 0
-unfolding table logOf
-log-below = agree (λ k. logOf (suc k) / 255) (λ k. 0) 255 refl
-
-log-stands : (k : ℕ) → k < 255 → getD (tripled 255 1) (logOf (suc k)) 0 ≡ suc k
-unfolding table logOf
-log-stands = agree (λ k. getD (tripled 255 1) (logOf (suc k)) 0) suc 255 refl
-
-log-once : (n : ℕ) → n < 255 → logOf (getD (tripled 255 1) n 0) ≡ n
-unfolding table logOf
-log-once = agree (λ n. logOf (getD (tripled 255 1) n 0)) (λ n. n) 255 refl
-
-pub tripled-at : (n : ℕ) → n < 255 → getD (tripled 255 1) n 0 ≡ power n
-tripled-at n h = rw powers-are at (table-at power 255 n h)
+-- the test over all 255 powers: each of 01 to ff stands among them, and once
+inverted : Inverted suc 255 powers
+unfolding table place powers
+inverted = (refl, refl, refl)
 
 pub logarithm-below : (b : ℕ) → 0 < b → b < 256 → logarithm b < 255
 logarithm-below zero p h = absurd (omega arith)
-logarithm-below (suc k) p h = rw (log-is (suc k)) (omega (arith, log-below k (omega arith)))
-
--- the entry for b in the table of logarithms, which begins with that of 01
-pub logarithm-at : (b : ℕ) → 0 < b → b < 256 → getD logarithms (b - 1) 0 ≡ logarithm b
-logarithm-at b p h =
-    let e : b - 1 + 1 ≡ b = omega arith in
-    table-at (λ k. logarithm (k + 1)) 255 (b - 1) (omega arith) ∙ ap logarithm e
+logarithm-below (suc k) p h = rw (logarithm-is (suc k)) (place-below suc 255 powers inverted k (omega arith))
 
 -- the power at a byte's logarithm is the byte, and the logarithm of a power is its place
 pub power-logarithm : (b : ℕ) → 0 < b → b < 256 → power (logarithm b) ≡ b
 power-logarithm zero p h = absurd (omega arith)
 power-logarithm (suc k) p h =
-    sym (tripled-at (logarithm (suc k)) (logarithm-below (suc k) p h)) ∙ rw (log-is (suc k)) (log-stands k (omega arith))
+    sym (powers-at (logarithm (suc k)) (logarithm-below (suc k) p h)) ∙ rw (logarithm-is (suc k)) (place-right suc 255 powers inverted k (omega arith))
 
 pub logarithm-power : (n : ℕ) → n < 255 → logarithm (power n) ≡ n
-logarithm-power n h = rw (log-is (power n), ← tripled-at n h) (log-once n h)
+logarithm-power n h = rw (logarithm-is (power n), ← powers-at n h) (place-only suc 255 powers inverted n h)
+
+-- the table of logarithms, as antt works it out, and the entry for b in it
+pub logarithms-are : logarithms ≡ (let l : List ℕ = powers in table (λ k. place (k + 1) l) 255)
+logarithms-are = table-same (λ k. logarithm (k + 1)) (λ k. place (k + 1) powers) 255 (λ k h. logarithm-is (k + 1))
+
+pub logarithm-at : (b : ℕ) → 0 < b → b < 256 → getD logarithms (b - 1) 0 ≡ logarithm b
+logarithm-at b p h =
+    let e : b - 1 + 1 ≡ b = omega arith in
+    table-at (λ k. logarithm (k + 1)) 255 (b - 1) (omega arith) ∙ ap logarithm e
 
 -- a product by logarithms
 pub product-by-logarithms : (a b : ℕ) → 0 < a → a < 256 → 0 < b → b < 256 → power ((logarithm a + logarithm b) % 255) ≡ a • b
 product-by-logarithms a b pa ha pb hb =
-    power-mod (logarithm a + logarithm b) ∙ power-add (logarithm a) (logarithm b) ∙ ap₂ (_•_) (power-logarithm a pa ha) (power-logarithm b pb hb)
+    power-mod (logarithm a + logarithm b) ∙ power-add (logarithm a) (logarithm b)
+    ∙ ap₂ (_•_) (power-logarithm a pa ha) (power-logarithm b pb hb)

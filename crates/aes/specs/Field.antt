@@ -6,9 +6,13 @@ use Rattle.aes.specs.Byte.{_⊕_, bit, table, place}
 
 infixl 70 _•_
 
--- XTIMES (4.2): b times x, and 11b taken away where that has left the byte
+-- m(x) of 4.2
+abbrev pub modulus : ℕ
+modulus = 0x11b
+
+-- XTIMES (4.2): b times x, and the modulus taken away where that has left the byte
 unfoldable pub xTimes : ℕ → ℕ
-xTimes b = (0x11b * bit b 7) ⊕ (b * 2)
+xTimes b = (modulus * bit b 7) ⊕ (b * 2)
 
 -- the sum of b, {02} • b, {04} • b, .. over those of the n low bits of c that are set
 unfoldable pub times : ℕ → ℕ → ℕ → ℕ
