@@ -6,9 +6,8 @@ use Prim.Native.Nat.{ℕ, zero, suc, _+_, _*_, _/_, _%_, _^_}
 use lib.Bits.{bitXor}
 use lib.Dec.{eqb}
 
-infixl 65 _⊕_
-
 -- the sum of two bytes (FIPS 197, 4.1): exclusive or, bit by bit
+infixl 65 _⊕_
 abbrev pub _⊕_ : ℕ → ℕ → ℕ
 a ⊕ b = bitXor a b
 
@@ -30,7 +29,7 @@ listed f i (suc n) = f i ∷ listed f (suc i) n
 unfoldable pub table : (ℕ → ℕ) → ℕ → List ℕ
 table f n = listed f 0 n
 
--- where x first stands in a table, counted from 0
+-- where x first stands in a table, counted from 0; the table's length where it does not
 unfoldable pub place : ℕ → List ℕ → ℕ
 place x [] = 0
 place x (y ∷ ys) = elim (eqb y x) [ true ↦ 0 | false ↦ suc (place x ys) ]

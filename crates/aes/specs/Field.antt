@@ -4,8 +4,6 @@ use mathlib.Core.List.{List}
 use Prim.Native.Nat.{ℕ, zero, suc, _+_, _*_, _/_, _%_}
 use Rattle.aes.specs.Byte.{_⊕_, bit, table, place}
 
-infixl 70 _•_
-
 -- m(x) of 4.2
 abbrev pub modulus : ℕ
 modulus = 0x11b
@@ -20,6 +18,7 @@ times zero b c = 0
 times (suc n) b c = (b * (c % 2)) ⊕ times n (xTimes b) (c / 2)
 
 -- the product of two bytes (4.2)
+infixl 70 _•_
 unfoldable pub _•_ : ℕ → ℕ → ℕ
 b • c = times 8 b c
 

@@ -6,9 +6,8 @@ use Prim.Native.Nat.{ℕ, _+_, _*_}
 use lib.Dec.{eqb, leb}
 use lib.ListN.{length, getD}
 
-infix 20 _else_
-
 -- what must hold, and the reply where it does not
+infix 20 _else_
 pub data Check : Type 0 where
   _else_ : Bool → ℕ → Check
 

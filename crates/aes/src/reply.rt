@@ -1,18 +1,31 @@
 // The reply numbers: 0 for a call that is done, and a number for each cause of refusal. What each means is said in
 // specs/Reply.antt.
 pub const DONE: u8 = 0;
+
 pub const KEY_LENGTH: u8 = 1;
+
 pub const SCHEDULE_LENGTH: u8 = 2;
+
 pub const INPUT_LENGTH: u8 = 3;
+
 pub const OUTPUT_LENGTH: u8 = 4;
+
 pub const MASKS_LENGTH: u8 = 5;
+
 pub const OFFSET_RANGE: u8 = 6;
+
 pub const FORM_UNKNOWN: u8 = 7;
+
 pub const RECORD_LENGTH: u8 = 8;
+
 pub const NO_LOGARITHM: u8 = 9;
+
 pub const POWER_RANGE: u8 = 10;
+
 pub const SHEET_LENGTH: u8 = 11;
+
 pub const MARK_WRONG: u8 = 12;
+
 pub const VERSION_UNKNOWN: u8 = 13;
 
 // A reply number and a value side by side; a refusal has value 0.

@@ -3,34 +3,47 @@
 use aes::reply;
 use aes::reply::Valued;
 use aes::tables;
+use aes::tables::entry;
 use libc::STDOUT_FILENO;
 
 fn main() {
-    print(b"Worked examples of the field under AES: bytes in hex, reply numbers in decimal.\n\n");
-    example(b"57 times 83", aes::multiply(0x57, 0x83), b"FIPS 197, 4.2");
-    example(b"57 times 13", aes::multiply(0x57, 0x13), b"FIPS 197, 4.2");
-    example(b"00 times ff", aes::multiply(0x00, 0xff), b"a factor is 00");
-    example(b"inverse of 53", aes::inverse(0x53), b"53 times ca is 01");
-    example(b"inverse of 00", aes::inverse(0x00), b"FIPS 197, 5.1.1");
+    print(b"Worked examples of the field under AES (FIPS 197): bytes in hex.\n\n");
+    products();
     boxes();
-    answer(b"power 0", aes::power(0), b"");
-    answer(b"power 1", aes::power(1), b"the generator");
-    answer(b"power 254", aes::power(254), b"the last: 03 times f6 is 01");
-    answer(b"power 255", aes::power(255), b"above 254");
-    answer(b"logarithm of 01", aes::logarithm(0x01), b"");
-    answer(b"logarithm of f6", aes::logarithm(0xf6), b"254, the last");
-    answer(b"logarithm of 00", aes::logarithm(0x00), b"00 has none");
+    powers();
+    logarithms();
+}
+
+fn products() {
+    example(b"57 times 83", aes::multiply(0x57, 0x83), b"FIPS 4.2");
+    example(b"57 times 13", aes::multiply(0x57, 0x13), b"FIPS 4.2");
+    example(b"00 times ff", aes::multiply(0x00, 0xff), b"00 is a factor");
+    example(b"inverse of 53", aes::inverse(0x53), b"53 times ca is 01");
+    example(b"inverse of 00", aes::inverse(0x00), b"FIPS 5.1.1");
 }
 
 fn boxes() {
     let sbox = tables::sbox();
     let inv_sbox = tables::inv_sbox();
     let doubles = tables::doubles();
-    example(b"S of 00", tables::entry(&sbox, 0x00), b"FIPS 197, 5.1.1");
-    example(b"S of 53", tables::entry(&sbox, 0x53), b"FIPS 197, 5.1.1");
-    example(b"inverse S of ed", tables::entry(&inv_sbox, 0xed), b"FIPS 197, 5.3.2");
-    example(b"57 doubled", tables::entry(&doubles, 0x57), b"FIPS 197, 4.2");
-    example(b"ae doubled", tables::entry(&doubles, 0xae), b"FIPS 197, 4.2");
+    example(b"S of 00", entry(&sbox, 0x00), b"FIPS 5.1.1");
+    example(b"S of 53", entry(&sbox, 0x53), b"FIPS 5.1.1");
+    example(b"inverse S of ed", entry(&inv_sbox, 0xed), b"FIPS 5.3.2");
+    example(b"57 doubled", entry(&doubles, 0x57), b"FIPS 4.2");
+    example(b"ae doubled", entry(&doubles, 0xae), b"FIPS 4.2");
+}
+
+fn powers() {
+    answer(b"power 0", aes::power(0), b"");
+    answer(b"power 1", aes::power(1), b"the generator");
+    answer(b"power 254", aes::power(254), b"03 times f6 is 01");
+    answer(b"power 255", aes::power(255), b"254 is the last");
+}
+
+fn logarithms() {
+    answer(b"logarithm of 01", aes::logarithm(0x01), b"");
+    answer(b"logarithm of f6", aes::logarithm(0xf6), b"254 in decimal");
+    answer(b"logarithm of 00", aes::logarithm(0x00), b"00 has none");
 }
 
 fn example(name: &[u8], value: u8, ground: &[u8]) {
