@@ -21,7 +21,7 @@ reciprocal-is : (b : ℕ) → b < 256 → inverse b ≡ reciprocal powers b
 unfolding reciprocal
 reciprocal-is zero h = inverse-zero
 reciprocal-is (suc k) h =
-    sym (powers-at ((255 - place (suc k) powers) % 255) (omega arith) ∙ rw (← logarithm-is (suc k)) (inverse-by-logarithm (suc k) (omega arith) h))
+    sym (inverse-by-logarithm (suc k) (omega arith) h) ∙ rw (logarithm-is (suc k)) (sym (powers-at _ (omega arith)))
 
 -- the table of S, as antt works it out
 unfoldable pub boxes : List ℕ
@@ -38,25 +38,24 @@ unfolding invSBox
 inv-boxes-are = ap (λ (l : List ℕ). table (λ b. place b l) 256) boxes-are
 
 -- the test over all 256 entries: each byte stands in the box, and once
-inverted : Inverted (λ b. b) 256 boxes
+test : Inverted (λ b. b) 256 boxes
 unfolding boxes
-inverted = (refl, refl, refl)
+test = (refl, refl, refl)
 
-box-at : (b : ℕ) → b < 256 → getD boxes b 0 ≡ sBox b
-box-at b h = rw boxes-are at (table-at sBox 256 b h)
-
-place-is : (b : ℕ) → invSBox b ≡ place b boxes
-unfolding invSBox
-place-is b = ap (place b) boxes-are
+inverted : Inverted (λ b. b) 256 (table sBox 256)
+inverted = rw boxes-are test
 
 pub invSBox-byte : (b : ℕ) → b < 256 → invSBox b < 256
-invSBox-byte b h = rw (place-is b) (place-below (λ b. b) 256 boxes inverted b h)
+unfolding invSBox
+invSBox-byte = place-below sBox (λ b. b) 256 inverted
 
 pub sBox-invSBox : (b : ℕ) → b < 256 → sBox (invSBox b) ≡ b
-sBox-invSBox b h = sym (box-at (invSBox b) (invSBox-byte b h)) ∙ rw (place-is b) (place-right (λ b. b) 256 boxes inverted b h)
+unfolding invSBox
+sBox-invSBox = place-right sBox (λ b. b) 256 inverted
 
 pub invSBox-sBox : (b : ℕ) → b < 256 → invSBox (sBox b) ≡ b
-invSBox-sBox b h = rw (place-is (sBox b), ← box-at b h) (place-only (λ b. b) 256 boxes inverted b h)
+unfolding invSBox
+invSBox-sBox = place-only sBox (λ b. b) 256 inverted
 
 affine-fits : (b : ℕ) → b < 256 → affine b / 256 ≡ 0
 unfolding table fromBits affine

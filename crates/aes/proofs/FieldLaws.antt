@@ -64,7 +64,11 @@ times-xTimes : (n b c : ℕ) → times n (xTimes b) c ≡ xTimes (times n b c)
 unfolding times
 times-xTimes zero b c = sym xTimes-zero
 times-xTimes (suc n) b c =
-    rw (xTimes-xor (b * (c % 2)) (times n (xTimes b) (c / 2)), bit-through xTimes xTimes-zero b (c % 2) (low c), times-xTimes n (xTimes b) (c / 2))
+    rw (
+      xTimes-xor (b * (c % 2)) (times n (xTimes b) (c / 2)),
+      bit-through xTimes xTimes-zero b (c % 2) (low c),
+      times-xTimes n (xTimes b) (c / 2),
+    )
 
 times-times : (n m a b c : ℕ) → times n (times m a b) c ≡ times m (times n a c) b
 unfolding times
@@ -97,13 +101,14 @@ pub product-one : (b : ℕ) → b < 256 → 1 • b ≡ b
 unfolding _•_ times xTimes table
 product-one = agree (λ b. 1 • b) (λ b. b) 256 refl
 
--- Two factors change places behind a third, whatever numbers they are. With a byte for the third, 1, that is commutativity.
+-- Two factors change places behind a third, whatever numbers they are; behind 1 that is commutativity.
 pub product-swap : (a b c : ℕ) → a • b • c ≡ a • c • b
 unfolding _•_
 product-swap = times-times 8 8
 
 pub product-comm : (a b : ℕ) → a < 256 → b < 256 → a • b ≡ b • a
-product-comm a b ha hb = ap (λ (x : ℕ). x • b) (sym (product-one a ha)) ∙ product-swap 1 a b ∙ ap (λ (x : ℕ). x • a) (product-one b hb)
+product-comm a b ha hb =
+    ap (λ (x : ℕ). x • b) (sym (product-one a ha)) ∙ product-swap 1 a b ∙ ap (λ (x : ℕ). x • a) (product-one b hb)
 
 pub product-one-right : (b : ℕ) → b < 256 → b • 1 ≡ b
 product-one-right b h = product-comm b 1 h (lit< tt) ∙ product-one b h
@@ -124,7 +129,8 @@ times-byte : (n b c : ℕ) → b < 256 → times n b c < 256
 unfolding times
 times-byte zero b c h = lit< tt
 times-byte (suc n) b c h =
-    xor-byte (b * (c % 2)) (times n (xTimes b) (c / 2)) (bit-byte b (c % 2) h (low c)) (times-byte n (xTimes b) (c / 2) (xTimes-byte b h))
+    xor-byte (b * (c % 2)) (times n (xTimes b) (c / 2)) (bit-byte b (c % 2) h (low c))
+    (times-byte n (xTimes b) (c / 2) (xTimes-byte b h))
 
 pub product-byte : (a b : ℕ) → a < 256 → a • b < 256
 unfolding _•_

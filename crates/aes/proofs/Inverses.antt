@@ -6,7 +6,7 @@ use Prim.Native.Nat.{ℕ, zero, suc, _+_, _-_, _*_, _%_, _<_}
 use native.Mathlib.Omega.{arith}
 use lib.Dec.{lit<}
 use Rattle.aes.specs.Field.{_•_, raise, inverse, power, logarithm}
-use Rattle.aes.proofs.FieldLaws.{product-zero-left, product-zero-right, product-one, product-one-right, product-comm, product-assoc, product-byte}
+use Rattle.aes.proofs.FieldLaws.{product-zero-left, product-zero-right, product-one, product-one-right, product-comm, product-assoc}
 use Rattle.aes.proofs.Powers.{raise-byte, raise-raise, power-byte, power-add, power-mod, power-255, power-logarithm, logarithm-below}
 
 pub inverse-byte : (b : ℕ) → b < 256 → inverse b < 256
@@ -22,7 +22,8 @@ unfolding inverse power raise
 power-inverse n =
     let e : n + n * 254 ≡ n * 255 = omega arith in
     let f : n * 255 % 255 ≡ 0 = omega arith in
-    ap (λ (x : ℕ). power n • x) (raise-raise 3 n 254 (lit< tt)) ∙ sym (power-add n (n * 254)) ∙ rw (e, ← power-mod (n * 255), f)
+    ap (λ (x : ℕ). power n • x) (raise-raise 3 n 254 (lit< tt)) ∙ sym (power-add n (n * 254))
+    ∙ rw (e, ← power-mod (n * 255), f)
 
 pub product-inverse : (b : ℕ) → 0 < b → b < 256 → b • inverse b ≡ 1
 product-inverse b p h = rw (power-logarithm b p h) at (power-inverse (logarithm b))
@@ -31,7 +32,8 @@ product-inverse b p h = rw (power-logarithm b p h) at (power-inverse (logarithm 
 pub product-cancel : (a b : ℕ) → 0 < a → a < 256 → b < 256 → inverse a • (a • b) ≡ b
 product-cancel a b p ha hb =
     let i : inverse a < 256 = inverse-byte a ha in
-    sym (product-assoc (inverse a) a b i ha) ∙ ap (λ (x : ℕ). x • b) (product-comm (inverse a) a i ha ∙ product-inverse a p ha) ∙ product-one b hb
+    sym (product-assoc (inverse a) a b i ha)
+    ∙ ap (λ (x : ℕ). x • b) (product-comm (inverse a) a i ha ∙ product-inverse a p ha) ∙ product-one b hb
 
 pub inverse-only : (b c : ℕ) → 0 < b → b < 256 → c < 256 → b • c ≡ 1 → c ≡ inverse b
 inverse-only b c p hb hc e =
@@ -41,7 +43,9 @@ inverse-only b c p hb hc e =
 pub product-nonzero : (a b : ℕ) → a < 256 → b < 256 → a • b ≡ 0 → (a ≡ 0) ⊎ (b ≡ 0)
 product-nonzero zero b ha hb e = inl refl
 product-nonzero (suc k) b ha hb e =
-    inr (sym (product-cancel (suc k) b (omega arith) ha hb) ∙ ap (λ (x : ℕ). inverse (suc k) • x) e ∙ product-zero-right (inverse (suc k)))
+    inr
+    (sym (product-cancel (suc k) b (omega arith) ha hb) ∙ ap (λ (x : ℕ). inverse (suc k) • x) e
+    ∙ product-zero-right (inverse (suc k)))
 
 -- the inverse by logarithms
 pub inverse-by-logarithm : (b : ℕ) → 0 < b → b < 256 → power ((255 - logarithm b) % 255) ≡ inverse b

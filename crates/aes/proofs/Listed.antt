@@ -38,14 +38,18 @@ Inverted v n l =
     (table (λ k. place (v k) l / n) n ≡ table (λ k. 0) n) × (table (λ k. getD l (place (v k) l) 0) n ≡ table v n)
     × (table (λ k. place (getD l k 0) l) n ≡ table (λ k. k) n)
 
-module _ (v : ℕ → ℕ) (n : ℕ) (l : List ℕ) (tests : Inverted v n l) (k : ℕ) (h : k < n) where
-  pub place-below : place (v k) l < n
+-- What follows for the function f whose table it is: its inverse is the place.
+module _ (f v : ℕ → ℕ) (n : ℕ) (tests : Inverted v n (table f n)) (k : ℕ) (h : k < n) where
+  pub place-below : place (v k) (table f n) < n
   place-below =
-      rw one-mul at
-      (div-lt-iff-lt-mul {k = n} {x = place (v k) l} {y = 1} (omega arith) .0 (rw (agree (λ k. place (v k) l / n) (λ k. 0) n (tests .0) k h) (lit< tt)))
+      let p : ℕ = place (v k) (table f n) in
+      let e : p / n ≡ 0 = agree (λ k. place (v k) (table f n) / n) (λ k. 0) n (tests .0) k h in
+      rw one-mul at (div-lt-iff-lt-mul {k = n} {x = p} {y = 1} (omega arith) .0 (rw e (lit< tt)))
 
-  pub place-right : getD l (place (v k) l) 0 ≡ v k
-  place-right = agree (λ k. getD l (place (v k) l) 0) v n (tests .1) k h
+  pub place-right : f (place (v k) (table f n)) ≡ v k
+  place-right =
+      sym (table-at f n (place (v k) (table f n)) place-below)
+      ∙ agree (λ k. getD (table f n) (place (v k) (table f n)) 0) v n (tests .1) k h
 
-  pub place-only : place (getD l k 0) l ≡ k
-  place-only = agree (λ k. place (getD l k 0) l) (λ k. k) n (tests .2) k h
+  pub place-only : place (f k) (table f n) ≡ k
+  place-only = rw (← table-at f n k h) (agree (λ k. place (getD (table f n) k 0) (table f n)) (λ k. k) n (tests .2) k h)

@@ -61,7 +61,8 @@ product-three b h = product-xor-left 1 2 b ∙ ap₂ (λ (x y : ℕ). x ⊕ y) (
 listed-tripled : (i n : ℕ) → listed power i n ≡ tripled n (power i)
 unfolding tripled power raise
 listed-tripled i zero = refl
-listed-tripled i (suc n) = ap (λ (l : List ℕ). power i ∷ l) (listed-tripled (suc i) n ∙ ap (tripled n) (product-three (power i) (power-byte i)))
+listed-tripled i (suc n) =
+    ap (λ (l : List ℕ). power i ∷ l) (listed-tripled (suc i) n ∙ ap (tripled n) (product-three (power i) (power-byte i)))
 
 -- the table of powers, as antt works it out
 unfoldable pub powers : List ℕ
@@ -79,24 +80,6 @@ pub logarithm-is : (b : ℕ) → logarithm b ≡ place b powers
 unfolding logarithm
 logarithm-is b = ap (place b) powers-are
 
--- the test over all 255 powers: each of 01 to ff stands among them, and once
-inverted : Inverted suc 255 powers
-unfolding table place powers
-inverted = (refl, refl, refl)
-
-pub logarithm-below : (b : ℕ) → 0 < b → b < 256 → logarithm b < 255
-logarithm-below zero p h = absurd (omega arith)
-logarithm-below (suc k) p h = rw (logarithm-is (suc k)) (place-below suc 255 powers inverted k (omega arith))
-
--- the power at a byte's logarithm is the byte, and the logarithm of a power is its place
-pub power-logarithm : (b : ℕ) → 0 < b → b < 256 → power (logarithm b) ≡ b
-power-logarithm zero p h = absurd (omega arith)
-power-logarithm (suc k) p h =
-    sym (powers-at (logarithm (suc k)) (logarithm-below (suc k) p h)) ∙ rw (logarithm-is (suc k)) (place-right suc 255 powers inverted k (omega arith))
-
-pub logarithm-power : (n : ℕ) → n < 255 → logarithm (power n) ≡ n
-logarithm-power n h = rw (logarithm-is (power n), ← powers-at n h) (place-only suc 255 powers inverted n h)
-
 -- the table of logarithms, as antt works it out, and the entry for b in it
 pub logarithms-are : logarithms ≡ (let l : List ℕ = powers in table (λ k. place (k + 1) l) 255)
 logarithms-are = table-same (λ k. logarithm (k + 1)) (λ k. place (k + 1) powers) 255 (λ k h. logarithm-is (k + 1))
@@ -105,6 +88,29 @@ pub logarithm-at : (b : ℕ) → 0 < b → b < 256 → getD logarithms (b - 1) 0
 logarithm-at b p h =
     let e : b - 1 + 1 ≡ b = omega arith in
     table-at (λ k. logarithm (k + 1)) 255 (b - 1) (omega arith) ∙ ap logarithm e
+
+-- the test over all 255 powers: each of 01 to ff stands among them, and once
+test : Inverted suc 255 powers
+unfolding table place powers
+test = (refl, refl, refl)
+
+inverted : Inverted suc 255 (table power 255)
+inverted = rw powers-are test
+
+pub logarithm-below : (b : ℕ) → 0 < b → b < 256 → logarithm b < 255
+unfolding logarithm
+logarithm-below zero p h = absurd (omega arith)
+logarithm-below (suc k) p h = place-below power suc 255 inverted k (omega arith)
+
+-- the power at a byte's logarithm is the byte, and the logarithm of a power is its place
+pub power-logarithm : (b : ℕ) → 0 < b → b < 256 → power (logarithm b) ≡ b
+unfolding logarithm
+power-logarithm zero p h = absurd (omega arith)
+power-logarithm (suc k) p h = place-right power suc 255 inverted k (omega arith)
+
+pub logarithm-power : (n : ℕ) → n < 255 → logarithm (power n) ≡ n
+unfolding logarithm
+logarithm-power n h = place-only power suc 255 inverted n h
 
 -- a product by logarithms
 pub product-by-logarithms : (a b : ℕ) → 0 < a → a < 256 → 0 < b → b < 256 → power ((logarithm a + logarithm b) % 255) ≡ a • b

@@ -16,7 +16,8 @@ use Rattle.aes.proofs.tables.powers.Reads as powers
 use Rattle.aes.proofs.tables.sbox.Reads as sbox
 
 -- for lifetimes and arguments, and what is then left behind the references, there are no two results
-abbrev pub Unique : {K : Type 0} {Args Result Exit : K → Type 0} → ((κs : K) → Args κs → Result κs → Exit κs → Type 0) → Type 0
+abbrev pub Unique :
+    {K : Type 0} {Args Result Exit : K → Type 0} → ((κs : K) → Args κs → Result κs → Exit κs → Type 0) → Type 0
 Unique {K} {Args} {Result} {Exit} Post =
     (κs : K) (args : Args κs) (exit : Exit κs) (x y : Result κs) → Post κs args x exit → Post κs args y exit → x ≡ y
 

@@ -7,7 +7,8 @@ use Rattle.aes.specs.Field.{inverse}
 -- the affine map: bit i of the result
 unfoldable pub affine : ℕ → ℕ
 affine b =
-    fromBits 8 (λ i. bit b i ⊕ bit b ((i + 4) % 8) ⊕ bit b ((i + 5) % 8) ⊕ bit b ((i + 6) % 8) ⊕ bit b ((i + 7) % 8) ⊕ bit 0x63 i)
+    fromBits 8
+    (λ i. bit b i ⊕ bit b ((i + 4) % 8) ⊕ bit b ((i + 5) % 8) ⊕ bit b ((i + 6) % 8) ⊕ bit b ((i + 7) % 8) ⊕ bit 0x63 i)
 
 -- SBOX
 unfoldable pub sBox : ℕ → ℕ

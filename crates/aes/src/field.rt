@@ -7,6 +7,7 @@ use crate::reply;
 use crate::reply::Valued;
 use crate::tables;
 
+// The product. 00 has no logarithm, so its products are answered first.
 pub fn multiply(a: u8, b: u8) -> u8
     ensures { λ r. ⌜ r ≡ a • b ⌝ }
 {
@@ -22,6 +23,7 @@ pub fn multiply(a: u8, b: u8) -> u8
     power_at((i + j) % 255)
 }
 
+// The inverse: the logarithm's opposite modulo 255.
 pub fn inverse(b: u8) -> u8
     ensures { λ r. ⌜ r ≡ inverse b ⌝ }
 {
@@ -33,6 +35,7 @@ pub fn inverse(b: u8) -> u8
     power_at((255 - i) % 255)
 }
 
+// The power n of 03, where n is 0 to 254.
 pub fn power(n: u8) -> Valued
     ensures { λ r. ⌜ (r .number, r .value) ≡ powerOf n ⌝ }
 {
@@ -48,6 +51,7 @@ pub fn power(n: u8) -> Valued
     }
 }
 
+// Which power of 03 a byte is.
 pub fn logarithm(b: u8) -> Valued
     ensures { λ r. ⌜ (r .number, r .value) ≡ logarithmOf b ⌝ }
 {
@@ -72,6 +76,7 @@ fn power_at(n: usize) -> u8
     powers[n]
 }
 
+// The table begins with the logarithm of 01.
 fn logarithm_in(lent: &[u8; 255], b: u8) -> usize
     requires { ⌜ (0 < b) × (now lent ≡ logarithms) ⌝ }
     ensures { λ r. ⌜ r ≡ logarithm b ⌝ }

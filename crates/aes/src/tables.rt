@@ -1,5 +1,5 @@
-// The stored tables. Each is named in its accessor alone and lent from there: a constant is written out anew wherever it is
-// named, so that a call asks for its tables once and lends them down.
+// The stored tables. A constant is written out anew wherever it is named, so each is named in its accessor alone: a call asks
+// for its tables once and lends them down.
 ghost use mathlib.Core.Path.{_≡_};
 ghost use lib.ListN.{getD};
 ghost use Rattle.aes.specs.Byte.{table};
@@ -104,24 +104,28 @@ pub fn powers() -> [u8; 255]
     POWERS
 }
 
+// The logarithms of 01 to ff.
 pub fn logarithms() -> [u8; 255]
     ensures { λ r. ⌜ r ≡ logarithms ⌝ }
 {
     LOGARITHMS
 }
 
+// S of 00 to ff.
 pub fn sbox() -> [u8; 256]
     ensures { λ r. ⌜ r ≡ table sBox 256 ⌝ }
 {
     SBOX
 }
 
+// The inverse of S of 00 to ff.
 pub fn inv_sbox() -> [u8; 256]
     ensures { λ r. ⌜ r ≡ table invSBox 256 ⌝ }
 {
     INV_SBOX
 }
 
+// 00 to ff doubled, for MixColumns.
 pub fn doubles() -> [u8; 256]
     ensures { λ r. ⌜ r ≡ table xTimes 256 ⌝ }
 {

@@ -10,7 +10,9 @@ returns : tie.Need-returns
 returns c = simp (eq-eqb _ _ (c .if1 .taken))
 
 returns-2 : tie.Need-returns-2
-returns-2 c = simp (ne-eqb _ _ (c .before .if1 .left), c .logarithms .ensures, logarithm-at (c .before .before .args .b) (search needs) (search needs))
+returns-2 c =
+    let b = c .before .before .args .b in
+    simp (ne-eqb b 0 (c .before .if1 .left), c .logarithms .ensures, logarithm-at b (search needs) (search needs))
 
 pub logarithm-spec : {M : Type 1} → statement M
 logarithm-spec = tie.close (tie.spec returns (λ c κs. search needs) (λ c. search needs) (λ c. search needs) returns-2)

@@ -17,7 +17,11 @@ returns-2 c = rw (c .if2 .taken) (sym (product-zero-right _))
 add-power-at : tie.Need-add-power-at
 add-power-at c =
     let start = c .before .before .before .before .before .before .before in
-    omega (arith, logarithm-below (start .args .a) (search needs) (search needs), logarithm-below (start .args .b) (search needs) (search needs))
+    omega (
+      arith,
+      logarithm-below (start .args .a) (search needs) (search needs),
+      logarithm-below (start .args .b) (search needs) (search needs),
+    )
 
 returns-3 : tie.Need-returns-3
 returns-3 c =
@@ -27,4 +31,5 @@ returns-3 c =
 pub multiply-spec : {M : Type 1} → statement M
 multiply-spec =
     tie.close
-    (tie.spec returns returns-2 (λ c κs. search needs) (λ c κs. search needs) (λ c κs. search needs) add-power-at (λ c κs. search needs) returns-3)
+    (tie.spec returns returns-2 (λ c κs. search needs) (λ c κs. search needs) (λ c κs. search needs) add-power-at
+    (λ c κs. search needs) returns-3)
