@@ -6,9 +6,9 @@ use native.Mathlib.Nat.{mul-zero, mul-one, zero-mul, add-zero}
 use native.Mathlib.Omega.{arith}
 use lib.Bits.{xor-shr, xor-mod, xor-block}
 use lib.Dec.{lit<}
-use Rattle.aes.specs.Byte.{_⊕_, table}
+use Rattle.aes.specs.Byte.{_⊕_, bit, table}
 use Rattle.aes.specs.Field.{modulus, xTimes, times, _•_}
-use Rattle.aes.proofs.Xor.{low, sums, xor-self, xor-zero, xor-byte}
+use Rattle.aes.proofs.Xor.{mod-two, sums, xor-self, xor-zero, xor-byte}
 use Rattle.aes.proofs.Listed.{agree}
 
 -- A bit p passes through what keeps 0, and spreads over a sum on either side of it.
@@ -35,20 +35,20 @@ twice a b = sym (simp add-zero at (xor-block 1 a b 0 0 (lit< tt) (lit< tt)))
 pub xTimes-xor : (a b : ℕ) → xTimes (a ⊕ b) ≡ xTimes a ⊕ xTimes b
 unfolding xTimes
 xTimes-xor a b =
-    rw (twice a b, xor-shr a b 7, xor-mod (a / 128) (b / 128) 1, bit-left modulus (a / 128 % 2) (b / 128 % 2) (low _) (low _))
+    rw (twice a b, xor-shr a b 7, xor-mod (a / 128) (b / 128) 1, bit-left modulus (a / 128 % 2) (b / 128 % 2) (mod-two _) (mod-two _))
     (simp sums)
 
 times-xor-left : (n a b c : ℕ) → times n (a ⊕ b) c ≡ times n a c ⊕ times n b c
 unfolding times
 times-xor-left zero a b c = refl
 times-xor-left (suc n) a b c =
-    rw (bit-right a b (c % 2) (low c), xTimes-xor a b, times-xor-left n (xTimes a) (xTimes b) (c / 2)) (simp sums)
+    rw (bit-right a b (c % 2) (mod-two c), xTimes-xor a b, times-xor-left n (xTimes a) (xTimes b) (c / 2)) (simp sums)
 
 times-xor-right : (n a b c : ℕ) → times n a (b ⊕ c) ≡ times n a b ⊕ times n a c
 unfolding times
 times-xor-right zero a b c = refl
 times-xor-right (suc n) a b c =
-    rw (xor-mod b c 1, xor-shr b c 1, bit-left a (b % 2) (c % 2) (low b) (low c), times-xor-right n (xTimes a) (b / 2) (c / 2))
+    rw (xor-mod b c 1, xor-shr b c 1, bit-left a (b % 2) (c % 2) (mod-two b) (mod-two c), times-xor-right n (xTimes a) (b / 2) (c / 2))
     (simp sums)
 
 times-zero : (n c : ℕ) → times n 0 c ≡ 0
@@ -66,7 +66,7 @@ times-xTimes zero b c = sym xTimes-zero
 times-xTimes (suc n) b c =
     rw (
       xTimes-xor (b * (c % 2)) (times n (xTimes b) (c / 2)),
-      bit-through xTimes xTimes-zero b (c % 2) (low c),
+      bit-through xTimes xTimes-zero b (c % 2) (mod-two c),
       times-xTimes n (xTimes b) (c / 2),
     )
 
@@ -76,7 +76,7 @@ times-times n zero a b c = times-zero n c
 times-times n (suc m) a b c =
     rw (
       times-xor-left n (a * (b % 2)) (times m (xTimes a) (b / 2)) c,
-      bit-through (λ x. times n x c) (times-zero n c) a (b % 2) (low b),
+      bit-through (λ x. times n x c) (times-zero n c) a (b % 2) (mod-two b),
       times-times n m (xTimes a) (b / 2) c,
       times-xTimes n a c,
     )
@@ -118,18 +118,19 @@ bit-byte b zero h hp = rw mul-zero (lit< tt)
 bit-byte b (suc zero) h hp = rw mul-one h
 bit-byte b (suc (suc p)) h hp = absurd (omega arith)
 
-xTimes-fits : (b : ℕ) → b < 256 → xTimes b / 256 ≡ 0
+-- doubling in FIPS 197's words (4.2): the bits move up by one, and 1b is added where bit 7 was set
+pub xTimes-shift : (b : ℕ) → b < 256 → xTimes b ≡ (0x1b * bit b 7) ⊕ (b * 2 % 256)
 unfolding xTimes table
-xTimes-fits = agree (λ b. xTimes b / 256) (λ b. 0) 256 refl
+xTimes-shift = agree xTimes (λ b. (0x1b * bit b 7) ⊕ (b * 2 % 256)) 256 refl
 
 pub xTimes-byte : (b : ℕ) → b < 256 → xTimes b < 256
-xTimes-byte b h = omega (arith, xTimes-fits b h)
+xTimes-byte b h = rw (xTimes-shift b h) (xor-byte (0x1b * bit b 7) (b * 2 % 256) (omega arith) (omega arith))
 
 times-byte : (n b c : ℕ) → b < 256 → times n b c < 256
 unfolding times
 times-byte zero b c h = lit< tt
 times-byte (suc n) b c h =
-    xor-byte (b * (c % 2)) (times n (xTimes b) (c / 2)) (bit-byte b (c % 2) h (low c))
+    xor-byte (b * (c % 2)) (times n (xTimes b) (c / 2)) (bit-byte b (c % 2) h (mod-two c))
     (times-byte n (xTimes b) (c / 2) (xTimes-byte b h))
 
 pub product-byte : (a b : ℕ) → a < 256 → a • b < 256

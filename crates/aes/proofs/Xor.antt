@@ -8,8 +8,8 @@ use lib.Bits.{differ, xor-step, xor-shr, xor-mod, xor-lt}
 use lib.Bits
 use Rattle.aes.specs.Byte.{_⊕_}
 
-pub low : (a : ℕ) → a % 2 < 2
-low a = omega arith
+pub mod-two : (a : ℕ) → a % 2 < 2
+mod-two a = omega arith
 
 digit : (x y z : ℕ) → x < 2 → y < 2 → z < 2 → differ (x ⊕ y) z ≡ differ x (y ⊕ z)
 digit zero zero z hx hy hz = refl
@@ -29,7 +29,7 @@ xor-assoc a =
     bin-ind (λ (n : ℕ). (b c : ℕ) → n ⊕ b ⊕ c ≡ n ⊕ (b ⊕ c)) (λ b c. refl)
     (λ n ih b c.
     rw (xor-step (n ⊕ b) c, xor-step n (b ⊕ c), xor-shr n b 1, xor-mod n b 1, xor-shr b c 1, xor-mod b c 1)
-    (ap₂ (λ (p q : ℕ). p * 2 + q) (ih (b / 2) (c / 2)) (digit (n % 2) (b % 2) (c % 2) (low n) (low b) (low c)))) a
+    (ap₂ (λ (p q : ℕ). p * 2 + q) (ih (b / 2) (c / 2)) (digit (n % 2) (b % 2) (c % 2) (mod-two n) (mod-two b) (mod-two c)))) a
 
 pub xor-comm : (a b : ℕ) → a ⊕ b ≡ b ⊕ a
 xor-comm = Bits.xor-comm
