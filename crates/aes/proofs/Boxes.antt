@@ -6,9 +6,9 @@ use Prim.Native.Nat.{ℕ, zero, suc, _-_, _/_, _%_, _<_}
 use native.Mathlib.Omega.{arith}
 use lib.ListN.{getD}
 use Rattle.aes.specs.Byte.{fromBits, table, place}
-use Rattle.aes.specs.Field.{xTimes, inverse}
+use Rattle.aes.specs.Field.{inverse}
 use Rattle.aes.specs.Box.{affine, sBox, invSBox}
-use Rattle.aes.proofs.Listed.{Inverted, table-at, table-same, agree, place-below, place-right, place-only}
+use Rattle.aes.proofs.Listed.{Inverted, table-same, agree, place-below, place-right, place-only}
 use Rattle.aes.proofs.Powers.{powers, powers-at, logarithm-is}
 use Rattle.aes.proofs.Inverses.{inverse-byte, inverse-zero, inverse-by-logarithm}
 

@@ -1,7 +1,7 @@
 -- The field's laws. Those of sums and doubling hold of all numbers; bytes are asked for only where a factor has to be one.
 -- Assumes nothing.
 use mathlib.Core.Path.{_≡_, refl, sym, ap, _∙_}
-use Prim.Native.Nat.{ℕ, zero, suc, _+_, _*_, _/_, _%_, _<_}
+use Prim.Native.Nat.{ℕ, zero, suc, _*_, _/_, _%_, _<_}
 use native.Mathlib.Nat.{mul-zero, mul-one, zero-mul, add-zero}
 use native.Mathlib.Omega.{arith}
 use lib.Bits.{xor-shr, xor-mod, xor-block}

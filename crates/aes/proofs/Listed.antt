@@ -1,7 +1,7 @@
 -- Tables: a table of f has f k at k. That a stored table is the table of f, antt computes.
 -- Assumes nothing.
 use mathlib.Core.Path.{_≡_, refl, ap, ap₂, sym, _∙_}
-use mathlib.Core.List.{List, [], _∷_}
+use mathlib.Core.List.{List, _∷_}
 use Prim.Native.Nat.{ℕ, zero, suc, _+_, _/_, _<_}
 use native.Mathlib.Nat.{add-zero, zero-add, add-suc, suc-add, one-mul, div-lt-iff-lt-mul}
 use native.Mathlib.Omega.{arith}

@@ -1,7 +1,7 @@
 -- 00 for 00; else the power at the logarithm taken from 255.
 -- Assumes nothing.
 use borrow.Author.Needs.{needs}
-use mathlib.Core.Path.{sym, _∙_}
+use mathlib.Core.Path.{sym}
 use native.Mathlib.Omega.{arith}
 use Rattle.aes.proofs.Powers.{logarithm-below}
 use Rattle.aes.proofs.Inverses.{inverse-zero, inverse-by-logarithm}

@@ -1,7 +1,7 @@
 -- 00 where a factor is 00; else the power at the sum of the logarithms modulo 255.
 -- Assumes nothing.
 use borrow.Author.Needs.{needs}
-use mathlib.Core.Path.{sym, _∙_}
+use mathlib.Core.Path.{sym}
 use native.Mathlib.Omega.{arith}
 use Rattle.aes.proofs.FieldLaws.{product-zero-left, product-zero-right}
 use Rattle.aes.proofs.Powers.{logarithm-below, product-by-logarithms}
