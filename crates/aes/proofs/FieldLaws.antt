@@ -1,6 +1,6 @@
 -- The field's laws. Those of sums and doubling hold of all numbers; bytes are asked for only where a factor has to be one.
 -- Assumes nothing.
-use mathlib.Core.Path.{_≡_, refl, sym, ap, _∙_}
+use mathlib.Core.Path.{_≡_, refl, sym, ap, ap₂, _∙_}
 use Prim.Native.Nat.{ℕ, zero, suc, _*_, _/_, _%_, _<_}
 use native.Mathlib.Nat.{mul-zero, mul-one, zero-mul, add-zero}
 use native.Mathlib.Omega.{arith}
@@ -145,3 +145,6 @@ product-assoc a b c ha hb =
 pub product-two : (b : ℕ) → b < 256 → 2 • b ≡ xTimes b
 unfolding _•_ times xTimes table
 product-two = agree (λ b. 2 • b) xTimes 256 refl
+
+pub product-three : (b : ℕ) → b < 256 → 3 • b ≡ b ⊕ xTimes b
+product-three b h = product-xor-left 1 2 b ∙ ap₂ (λ (x y : ℕ). x ⊕ y) (product-one b h) (product-two b h)

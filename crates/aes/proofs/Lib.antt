@@ -1,7 +1,13 @@
 pub mod Xor
 pub mod Listed
+pub mod Fill
 pub mod FieldLaws
 pub mod Powers
 pub mod Inverses
 pub mod Boxes
+pub mod Columns
+pub mod Steps
+pub mod Undo
+pub mod RoundTrip
+pub mod Rounds
 pub mod Unique

@@ -6,7 +6,7 @@ use Prim.Native.Nat.{ℕ, zero, suc, _+_, _/_, _<_}
 use native.Mathlib.Nat.{add-zero, zero-add, add-suc, suc-add, one-mul, div-lt-iff-lt-mul}
 use native.Mathlib.Omega.{arith}
 use lib.Dec.{lit<}
-use lib.ListN.{getD}
+use lib.ListN.{length, getD}
 use Rattle.aes.specs.Byte.{listed, table, place}
 
 listed-at : (f : ℕ → ℕ) (i n k : ℕ) → k < n → getD (listed f i n) k 0 ≡ f (i + k)
@@ -17,6 +17,14 @@ listed-at f i (suc n) (suc k) h = rw (add-suc, ← suc-add) (listed-at f (suc i)
 pub table-at : (f : ℕ → ℕ) (n k : ℕ) → k < n → getD (table f n) k 0 ≡ f k
 unfolding table
 table-at f n k h = rw zero-add at (listed-at f 0 n k h)
+
+listed-length : (f : ℕ → ℕ) (i n : ℕ) → length (listed f i n) ≡ n
+listed-length f i zero = refl
+listed-length f i (suc n) = ap suc (listed-length f (suc i) n)
+
+pub table-length : (f : ℕ → ℕ) (n : ℕ) → length (table f n) ≡ n
+unfolding table
+table-length f n = listed-length f 0 n
 
 listed-same : (f g : ℕ → ℕ) (i n : ℕ) → ((k : ℕ) → k < n → f (i + k) ≡ g (i + k)) → listed f i n ≡ listed g i n
 listed-same f g i zero h = refl

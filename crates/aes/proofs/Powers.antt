@@ -10,7 +10,7 @@ use lib.ListN.{getD}
 use Rattle.aes.specs.Byte.{_⊕_, listed, table, place}
 use Rattle.aes.specs.Field.{xTimes, times, _•_, raise, power, logarithm, logarithms}
 use Rattle.aes.proofs.Listed.{Inverted, table-at, table-same, place-below, place-right, place-only}
-use Rattle.aes.proofs.FieldLaws.{product-xor-left, product-one, product-two, product-byte, product-assoc}
+use Rattle.aes.proofs.FieldLaws.{product-one, product-three, product-byte, product-assoc}
 
 pub raise-byte : (b n : ℕ) → b < 256 → raise b n < 256
 unfolding raise
@@ -54,9 +54,6 @@ unfoldable pub tripled : ℕ → ℕ → List ℕ
 unfolding xTimes
 tripled zero b = []
 tripled (suc n) b = b ∷ tripled n (b ⊕ xTimes b)
-
-product-three : (b : ℕ) → b < 256 → 3 • b ≡ b ⊕ xTimes b
-product-three b h = product-xor-left 1 2 b ∙ ap₂ (λ (x y : ℕ). x ⊕ y) (product-one b h) (product-two b h)
 
 listed-tripled : (i n : ℕ) → listed power i n ≡ tripled n (power i)
 unfolding tripled power raise

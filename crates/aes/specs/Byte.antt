@@ -7,7 +7,7 @@ use lib.Bits.{bitXor}
 use lib.Dec.{eqb}
 
 -- the sum of two bytes (FIPS 197, 4.1): exclusive or, bit by bit
-infixl 65 _⊕_
+infixl 68 _⊕_
 abbrev pub _⊕_ : ℕ → ℕ → ℕ
 a ⊕ b = bitXor a b
 

@@ -1,5 +1,10 @@
 pub mod Byte
 pub mod Field
 pub mod Box
+pub mod State
+pub mod Lent
+pub mod Key
+pub mod Cipher
+pub mod Record
 pub mod Reply
 pub mod Calls

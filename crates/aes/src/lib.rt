@@ -1,9 +1,16 @@
-// The lower crate: the field under the cipher, and its tables.
+// The lower crate: the field and the cipher of FIPS 197. The rack's engine.
+mod cipher;
 mod field;
 pub mod reply;
+mod state;
 pub mod tables;
 
+pub use cipher::decrypt;
+pub use cipher::encrypt;
 pub use field::inverse;
 pub use field::logarithm;
 pub use field::multiply;
 pub use field::power;
+pub use state::add;
+pub use state::mix_columns;
+pub use state::shift_rows;
