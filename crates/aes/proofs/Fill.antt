@@ -34,3 +34,7 @@ unfolding table
 filled-all {f} {n} {i} {r} p h =
     ext-getD 0 r (table f n) (p .room ∙ sym (table-length f n))
     (λ k lt. p .so-far k (omega arith) ∙ sym (table-at f n k (omega arith)))
+
+-- filled from another list, it is that list
+pub filled-copy : {s r : List ℕ} {i : ℕ} → Filled (λ k. getD s k 0) (length s) i r → length s ≤ i → r ≡ s
+filled-copy {s} {r} {i} p h = ext-getD 0 r s (p .room) (λ k lt. p .so-far k (omega (arith, p .room)))

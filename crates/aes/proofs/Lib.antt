@@ -10,4 +10,8 @@ pub mod Steps
 pub mod Undo
 pub mod RoundTrip
 pub mod Rounds
+pub mod Part
+pub mod Schedule
+pub mod Written
+pub mod PlainRun
 pub mod Unique

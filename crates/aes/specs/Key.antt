@@ -29,14 +29,14 @@ subWord a = word (λ j. sBox (at a j))
 abbrev pub rcon : ℕ → List ℕ
 rcon j = raise 0x02 (j - 1) ∷ 0 ∷ 0 ∷ 0 ∷ []
 
--- what is added to word i - 8 to make word i
-abbrev pub temp : List ℕ → ℕ → List ℕ
-temp w i =
-    cond (eqb (i % 8) 0) (sumWord (subWord (rotWord (wordAt w (i - 1)))) (rcon (i / 8)))
-    (cond (eqb (i % 8) 4) (subWord (wordAt w (i - 1))) (wordAt w (i - 1)))
+-- what is added to word i - 8 to make word i, by the word before
+unfoldable pub temp : List ℕ → ℕ → List ℕ
+temp before i =
+    cond (eqb (i % 8) 0) (sumWord (subWord (rotWord before)) (rcon (i / 8)))
+    (cond (eqb (i % 8) 4) (subWord before) before)
 
 unfoldable pub nextWord : List ℕ → ℕ → List ℕ
-nextWord w i = sumWord (wordAt w (i - 8)) (temp w i)
+nextWord w i = sumWord (wordAt w (i - 8)) (temp (wordAt w (i - 1)) i)
 
 -- the key's eight words, and n words more
 unfoldable pub expanded : List ℕ → ℕ → List ℕ

@@ -1,6 +1,7 @@
 -- The recorded points of a run, and the record of a plain one.
 -- Assumes nothing.
 use mathlib.Core.List.{List, [], _∷_, _++_}
+use mathlib.Core.Path.{_≡_}
 use Prim.Native.Nat.{ℕ, zero, suc, _-_}
 use Rattle.aes.specs.State.{subBytes, shiftRows, mixColumns, addRoundKey}
 use Rattle.aes.specs.Key.{roundKey}
@@ -53,3 +54,8 @@ plain w (uncovered r) s = s
 
 unfoldable pub plainRecord : ℕ → List ℕ → List ℕ → List (List ℕ)
 plainRecord nr w input = run (plain w) input (points nr)
+
+-- a run from s through the points ps ends in t and has left its states in xs, one after the other
+pub record Recorded (f : Point → List ℕ → List ℕ) (s : List ℕ) (ps : List Point) (t xs : List ℕ) : Type 0 where
+  pub end : t ≡ last s (run f s ps)
+  pub held : xs ≡ bytes (run f s ps)

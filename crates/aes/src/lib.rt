@@ -1,6 +1,8 @@
 // The lower crate: the field and the cipher of FIPS 197. The rack's engine.
 mod cipher;
 mod field;
+mod key;
+mod record;
 pub mod reply;
 mod state;
 pub mod tables;
@@ -11,6 +13,8 @@ pub use field::inverse;
 pub use field::logarithm;
 pub use field::multiply;
 pub use field::power;
+pub use key::expand_key;
+pub use record::record_plain;
 pub use state::add;
 pub use state::mix_columns;
 pub use state::shift_rows;

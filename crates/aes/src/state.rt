@@ -164,11 +164,7 @@ pub(crate) fn block(lent: &[u8]) -> [u8; 16]
     ensures { λ r. ⌜ r ≡ now (lent .entry) ⌝ }
 {
     let mut r = [0u8; 16];
-    let mut i = 0;
-    while i < 16 {
-        r[i] = lent[i];
-        i += 1;
-    }
+    copy(lent, &mut r);
     r
 }
 
@@ -176,9 +172,16 @@ pub(crate) fn put(s: [u8; 16], lent: &mut [u8])
     requires { ⌜ length (now lent) ≡ 16 ⌝ }
     ensures { λ _. ⌜ now (lent .exit) ≡ s ⌝ }
 {
+    copy(&s, lent);
+}
+
+pub(crate) fn copy(from: &[u8], to: &mut [u8])
+    requires { ⌜ length (now to) ≡ length (now from) ⌝ }
+    ensures { λ _. ⌜ now (to .exit) ≡ now (from .entry) ⌝ }
+{
     let mut i = 0;
-    while i < 16 {
-        lent[i] = s[i];
+    while i < from.len() {
+        to[i] = from[i];
         i += 1;
     }
 }

@@ -3,7 +3,7 @@
 ghost use mathlib.Core.Path.{_≡_};
 ghost use lib.ListN.{getD};
 ghost use Rattle.aes.specs.Byte.{table};
-ghost use Rattle.aes.specs.Field.{xTimes, power, logarithms};
+ghost use Rattle.aes.specs.Field.{xTimes, raise, power, logarithms};
 ghost use Rattle.aes.specs.Box.{sBox, invSBox};
 
 const POWERS: [u8; 255] = *b"\
@@ -97,6 +97,8 @@ const DOUBLES: [u8; 256] = *b"\
     \xdb\xd9\xdf\xdd\xd3\xd1\xd7\xd5\xcb\xc9\xcf\xcd\xc3\xc1\xc7\xc5\
     \xfb\xf9\xff\xfd\xf3\xf1\xf7\xf5\xeb\xe9\xef\xed\xe3\xe1\xe7\xe5";
 
+const ROUND_CONSTANTS: [u8; 7] = *b"\x01\x02\x04\x08\x10\x20\x40";
+
 // The powers 0 to 254 of the generator 03.
 pub fn powers() -> [u8; 255]
     ensures { λ r. ⌜ r ≡ table power 255 ⌝ }
@@ -130,6 +132,13 @@ pub fn doubles() -> [u8; 256]
     ensures { λ r. ⌜ r ≡ table xTimes 256 ⌝ }
 {
     DOUBLES
+}
+
+// The round constants 1 to 7 of key expansion.
+pub fn round_constants() -> [u8; 7]
+    ensures { λ r. ⌜ r ≡ table (raise 0x02) 7 ⌝ }
+{
+    ROUND_CONSTANTS
 }
 
 // What a lent table has at a byte.

@@ -1,0 +1,17 @@
+-- Over the lent table of doubles the columns are mixed as MIXCOLUMNS mixes them.
+-- Assumes nothing.
+use mathlib.Core.List.{List}
+use Prim.Native.Nat.{ℕ}
+use borrow.Author.Needs.{needs}
+use Rattle.aes.specs.State.{at}
+use Rattle.aes.proofs.Steps.{byte, mix-lent}
+use Rattle.aes.proofs.record.mix.Statement.{statement}
+use Rattle.aes.proofs.record.mix.Tie as tie
+
+returns : tie.Need-returns
+returns c =
+    let s : List ℕ = c .before .before .before .before .before .before .args .s in
+    (cc (mix-lent s (record { size = search needs; byte = λ i. byte (at s i) (search needs) })), c .before .before .keep .ensures .1)
+
+pub mix-spec : {M : Type 1} → statement M
+mix-spec = tie.close (tie.spec (λ c κs. search needs) (λ c κs. search needs) (λ c. search needs) returns)
