@@ -5,11 +5,8 @@ use mathlib.Core.List.{List, [], _++_, append-assoc}
 use Prim.Native.Nat.{ℕ, _+_, _-_, _≤_, _<_}
 use native.Mathlib.Omega.{arith}
 use lib.ListN.{length, getD, take, drop, length-append, length-drop}
+use Rattle.aes.specs.Held.{Holds}
 use lib.Seq.{take-at, length-take-le, take-all, getD-take}
-
-pub record Holds (n : ℕ) (p xs : List ℕ) : Type 0 where
-  pub size : length xs ≡ n
-  pub head : take (length p) xs ≡ p
 
 pub holds-none : (n : ℕ) (xs : List ℕ) → length xs ≡ n → Holds n [] xs
 holds-none n xs l = record { size = l; head = refl }

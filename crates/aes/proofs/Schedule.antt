@@ -7,7 +7,8 @@ use native.Mathlib.Omega.{arith}
 use lib.ListN.{length, length-append}
 use Rattle.aes.specs.State.{at}
 use Rattle.aes.specs.Key.{wordAt, sumWord, temp, nextWord, expanded, keyExpansion}
-use Rattle.aes.proofs.Part.{Holds, holds-read}
+use Rattle.aes.specs.Held.{Holds}
+use Rattle.aes.proofs.Part.{holds-read}
 
 pub next-length : (w : List ℕ) (i : ℕ) → length (nextWord w i) ≡ 4
 unfolding nextWord

@@ -7,7 +7,8 @@ use native.Mathlib.Numerals.{add-one}
 use native.Mathlib.Omega.{arith}
 use lib.ListN.{length, length-append}
 use Rattle.aes.specs.Record.{Point, block, whole, final, wholes, points, run, last, bytes, Recorded}
-use Rattle.aes.proofs.Part.{Holds, holds-none, holds-all, lent, back}
+use Rattle.aes.specs.Held.{Holds}
+use Rattle.aes.proofs.Part.{holds-none, holds-all, lent, back}
 
 -- each step makes sixteen bytes of sixteen
 abbrev pub Sized : {P : Type 0} → (P → List ℕ → List ℕ) → Type 0

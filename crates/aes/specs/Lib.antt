@@ -6,5 +6,6 @@ pub mod Lent
 pub mod Key
 pub mod Cipher
 pub mod Record
+pub mod Held
 pub mod Reply
 pub mod Calls

@@ -6,6 +6,7 @@ ghost use Rattle.aes.specs.Byte.{table};
 ghost use Rattle.aes.specs.Field.{raise};
 ghost use Rattle.aes.specs.Box.{sBox};
 ghost use Rattle.aes.specs.Key.{wordAt, sumWord, subWord, temp, keyExpansion};
+ghost use Rattle.aes.specs.Held.{Holds};
 ghost use Rattle.aes.specs.Calls.{expandKeyOf};
 use crate::reply;
 use crate::state::copy;
@@ -32,8 +33,7 @@ fn expanded(key: &[u8]) -> [u8; 240]
 {
     let sbox = tables::sbox();
     let constants = tables::round_constants();
-    let mut w = [0u8; 240];
-    copy(key, &mut w[0..32]);
+    let mut w = start(key);
     let mut i = 8;
     while i < 60 {
         let t = temp(word(&w, i - 1), i, &sbox, &constants);
@@ -43,6 +43,15 @@ fn expanded(key: &[u8]) -> [u8; 240]
         copy(&n, &mut w[a..e]);
         i += 1;
     }
+    w
+}
+
+fn start(key: &[u8]) -> [u8; 240]
+    requires { ⌜ length (now key) ≡ 32 ⌝ }
+    ensures { λ r. ⌜ Holds 240 (now (key .entry)) r ⌝ }
+{
+    let mut w = [0u8; 240];
+    copy(key, &mut w[0..32]);
     w
 }
 

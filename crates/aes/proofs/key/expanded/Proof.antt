@@ -7,7 +7,8 @@ use native.Mathlib.Omega.{arith}
 use borrow.Author.Needs.{needs}
 use lib.ListN.{length}
 use Rattle.aes.specs.Key.{sumWord, temp, nextWord, expanded, keyExpansion}
-use Rattle.aes.proofs.Part.{Holds, holds-first, holds-all, lent}
+use Rattle.aes.specs.Held.{Holds}
+use Rattle.aes.proofs.Part.{holds-all, lent}
 use Rattle.aes.proofs.Schedule.{next-length, expanded-length, expanded-more, next-held}
 use Rattle.aes.proofs.key.expanded.Statement.{statement}
 use Rattle.aes.proofs.key.expanded.Tie as tie
@@ -20,10 +21,7 @@ abbrev μ-loop : tie.MeasureT-loop
 
 loop-holds : tie.Need-loop-holds Inv-loop μ-loop
 unfolding expanded
-loop-holds c =
-    let key : List ℕ = c .before .before .before .before .before .before .args .key .now in
-    let l : length key ≡ 32 = c .before .before .before .before .before .before .pre in
-    (search needs, search needs, l, holds-first 240 key _ _ (c .before .copy .ensures) (ap (λ (k : ℕ). k + 208) l))
+loop-holds c = (search needs, search needs, search needs, c .start .ensures)
 
 loop-again : tie.Need-loop-again Inv-loop μ-loop
 loop-again c =
@@ -31,7 +29,7 @@ loop-again c =
     let tmp = sum .before .before .before in
     let wrd = tmp .before .before .before in
     let l = wrd .before .before .before .loop in
-    let key : List ℕ = wrd .before .before .before .before .before .before .before .before .before .before .args .key .now in
+    let key : List ℕ = wrd .before .before .before .before .before .before .before .before .args .key .now in
     let i : ℕ = l .i in
     let p : List ℕ = expanded key (i - 8) in
     let size : length p ≡ 4 * i = expanded-length key (i - 8) (l .inv .2) ∙ omega arith in
@@ -43,21 +41,21 @@ loop-again c =
       search needs,
       l .inv .2,
       rw (expanded-more key i (l .inv .0))
-          (lent 240 (4 * i) (4 * i + 4) p (nextWord p i) (l .w) _ (l .inv .3) size (c .before .copy2 .ensures ∙ word-is) (next-length p i ∙ omega arith) (omega arith) (omega arith)),
+          (lent 240 (4 * i) (4 * i + 4) p (nextWord p i) (l .w) _ (l .inv .3) size (c .before .copy .ensures ∙ word-is) (next-length p i ∙ omega arith) (omega arith) (omega arith)),
     )
 
 returns : tie.Need-returns Inv-loop μ-loop
 unfolding keyExpansion
 returns c =
     let l = c .before .loop in
-    let key : List ℕ = c .before .before .before .before .before .before .before .before .args .key .now in
+    let key : List ℕ = c .before .before .before .before .before .before .args .key .now in
     let e : l .i ≡ 60 = omega arith in
     holds-all 240 (expanded key 52) (l .w) (rw e at (l .inv .3)) (expanded-length key 52 (l .inv .2))
 
 pub expanded-spec : {M : Type 1} → statement M
 expanded-spec =
     tie.close
-    (tie.spec Inv-loop μ-loop (λ c κs. search needs) (λ c κs. search needs) (λ c. search needs) (λ c. search needs) (λ c. search needs) (λ c κs. search needs) loop-holds
+    (tie.spec Inv-loop μ-loop (λ c κs. search needs) (λ c κs. search needs) (λ c κs. search needs) loop-holds
     (λ c. search needs) (λ c κs. search needs) (λ c κs. search needs) (λ c. search needs) (λ c κs. search needs) (λ c κs. search needs)
     (λ c. search needs) (λ c. search needs) (λ c. search needs) (λ c. search needs) (λ c. search needs) (λ c. search needs)
     (λ c κs. search needs) (λ c. search needs) (λ c. search needs) loop-again returns)
