@@ -14,4 +14,5 @@ pub mod Part
 pub mod Schedule
 pub mod Written
 pub mod PlainRun
+pub mod CallLaws
 pub mod Unique

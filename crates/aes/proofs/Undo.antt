@@ -36,6 +36,10 @@ pub add-bytes : {a b : List ℕ} → Bytes 16 a → Bytes 16 b → Bytes 16 (add
 unfolding addRoundKey
 add-bytes {a} {b} p q = state-bytes (λ i. at a i ⊕ at b i) (λ i. xor-byte (at a i) (at b i) (p .byte i) (q .byte i))
 
+pub add-size : (a b : List ℕ) → length (addRoundKey a b) ≡ 16
+unfolding addRoundKey
+add-size a b = refl
+
 pub sub-bytes : {s : List ℕ} → Bytes 16 s → Bytes 16 (subBytes s)
 unfolding subBytes
 sub-bytes {s} p = state-bytes (λ i. sBox (at s i)) (λ i. sBox-byte (at s i) (p .byte i))

@@ -15,7 +15,7 @@ abbrev pub Sized : {P : Type 0} → (P → List ℕ → List ℕ) → Type 0
 Sized {P} f = (p : P) (s : List ℕ) → length s ≡ 16 → length (f p s) ≡ 16
 
 module _ (f : Point → List ℕ → List ℕ) where
-  run-append : (ps qs : List Point) (s : List ℕ) → run f s (ps ++ qs) ≡ run f s ps ++ run f (last s (run f s ps)) qs
+  pub run-append : (ps qs : List Point) (s : List ℕ) → run f s (ps ++ qs) ≡ run f s ps ++ run f (last s (run f s ps)) qs
   unfolding run last
   run-append [] qs s = refl
   run-append (p ∷ ps) qs s = ap (λ (u : List (List ℕ)). f p s ∷ u) (run-append ps qs (f p s))
@@ -35,7 +35,7 @@ unfolding bytes
 bytes-append [] v = refl
 bytes-append (s ∷ u) v = rw (bytes-append u v) (sym (append-assoc s (bytes u) (bytes v)))
 
-last-append : (s : List ℕ) (u v : List (List ℕ)) → last s (u ++ v) ≡ last (last s u) v
+pub last-append : (s : List ℕ) (u v : List (List ℕ)) → last s (u ++ v) ≡ last (last s u) v
 unfolding last
 last-append s [] v = refl
 last-append s (t ∷ u) v = last-append t u v

@@ -5,6 +5,7 @@ use mathlib.Core.Path.{_≡_}
 use Prim.Native.Nat.{ℕ, zero, suc, _-_}
 use Rattle.aes.specs.State.{subBytes, shiftRows, mixColumns, addRoundKey}
 use Rattle.aes.specs.Key.{roundKey}
+use Rattle.aes.specs.Cipher.{rounds, cipher}
 
 -- the points at which a state is recorded, each with its round, counted from 0
 pub data Point : Type 0 where
@@ -59,3 +60,14 @@ plainRecord nr w input = run (plain w) input (points nr)
 pub record Recorded (f : Point → List ℕ → List ℕ) (s : List ℕ) (ps : List Point) (t xs : List ℕ) : Type 0 where
   pub end : t ≡ last s (run f s ps)
   pub held : xs ≡ bytes (run f s ps)
+
+-- the state of CIPHER at each point, over the rounds that it is made of: after key r a round begins
+unfoldable pub cipherAt : List ℕ → List ℕ → Point → List ℕ
+cipherAt w input block = input
+cipherAt w input (keyed r) = rounds w (addRoundKey input (roundKey w 0)) r
+cipherAt w input (boxed r) = subBytes (rounds w (addRoundKey input (roundKey w 0)) r)
+cipherAt w input (shifted r) = shiftRows (subBytes (rounds w (addRoundKey input (roundKey w 0)) r))
+cipherAt w input (mixed r) = mixColumns (shiftRows (subBytes (rounds w (addRoundKey input (roundKey w 0)) r)))
+cipherAt w input (compensated r) = mixColumns (shiftRows (subBytes (rounds w (addRoundKey input (roundKey w 0)) r)))
+cipherAt w input (closed r) = cipher (suc r) w input
+cipherAt w input (uncovered r) = cipher (suc r) w input
