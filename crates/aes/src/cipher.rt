@@ -45,11 +45,14 @@ fn run(schedule: &[u8], input: &[u8], output: &mut [u8], back: bool) -> u8
     if output.len() != 16 {
         return reply::OUTPUT_LENGTH;
     }
+    let b = block(input);
     if back {
-        put(decrypted(block(input), schedule), output);
+        let t = decrypted(b, schedule);
+        put(t, output);
         return reply::DONE;
     }
-    put(encrypted(block(input), schedule), output);
+    let c = encrypted(b, schedule);
+    put(c, output);
     reply::DONE
 }
 
