@@ -1,0 +1,30 @@
+// Printing: texts, and numbers under a column's right edge.
+use libc::STDOUT_FILENO;
+
+pub fn print(text: &[u8]) {
+    io::write_all(STDOUT_FILENO, text);
+}
+
+pub fn print_decimal(n: u64) {
+    io::print_decimal(STDOUT_FILENO, n);
+}
+
+// A text, and blanks up to the column of the numbers.
+pub fn print_left(text: &[u8]) {
+    print(text);
+    print_from(b"                               ", text.len());
+}
+
+// A number, and blanks before it.
+pub fn print_right(n: u64) {
+    let mut digits = [0u8; 20];
+    let k = io::decimal(n, &mut digits);
+    print_from(b"         ", k);
+    print(&digits[..k]);
+}
+
+fn print_from(text: &[u8], from: usize) {
+    if from < text.len() {
+        print(&text[from..]);
+    }
+}
