@@ -1,5 +1,6 @@
 // What can be wrong with a line: a number for each cause, and its words.
 use crate::print::print;
+use crate::text::part;
 
 pub const NONE: u8 = 0;
 
@@ -17,14 +18,22 @@ pub const NAME: u8 = 6;
 
 pub const ROUND: u8 = 7;
 
+// The words stand in the order of the numbers.
 pub fn print_words(fault: u8) {
-    match fault {
-        HEADER => print(b"a header that names no source\n"),
-        SOURCE => print(b"no header above it says how to read it\n"),
-        FIELDS => print(b"a field is missing, or there are too many\n"),
-        LENGTH => print(b"a field has the wrong length\n"),
-        DIGIT => print(b"a field has a character that is no hex digit\n"),
-        NAME => print(b"a state's name is unknown\n"),
-        _ => print(b"a round is out of range\n"),
-    }
+    let words = b"\
+nothing is wrong
+a header that names no source
+no header above it says how to read it
+a field is missing, or there are too many
+a field has the wrong length
+a field has a character that is no hex digit
+a state has an unknown name
+a round is out of range";
+    print(part(words, fault as usize, b'\n'));
+    print(b"\n");
+}
+
+// The first of two faults, where there is one.
+pub fn either(a: u8, b: u8) -> u8 {
+    if a == NONE { b } else { a }
 }

@@ -1,5 +1,5 @@
 // Runs the vectors of standard input on the library, and prints how many of each source were run and how many differ. A line
-// that starts with # names the source of the lines below it; the other lines are one vector each.
+// that starts with # names the source of the lines below it; each other line is one vector.
 mod c3;
 mod calls;
 mod fault;
@@ -8,14 +8,14 @@ mod sources;
 mod tally;
 mod text;
 
-ghost use Prim.Native.Nat.{_≤_};
+ghost use mathlib.Core.Path.{_≡_};
 ghost use lib.ListN.{length};
 use libc::STDIN_FILENO;
 use print::print;
 use tally::Tally;
 
 fn main() {
-    let mut text = [0u8; 196608];
+    let mut text = room();
     let n = io::read_full(STDIN_FILENO, &mut text);
     if at_end() {
         run(&text[..n]).print();
@@ -24,23 +24,26 @@ fn main() {
     }
 }
 
-// Whether the input has ended: one more byte, or a read that fails, says that it has not.
+fn room() -> [u8; 196608]
+    ensures { λ r. ⌜ 196608 ≡ length r ⌝ }
+{
+    [0; 196608]
+}
+
+// Whether the input has ended: one byte more, or a read that fails, says that it has not.
 fn at_end() -> bool {
     let mut more = [0u8; 1];
     libc::read(STDIN_FILENO, &mut more) == 0
 }
 
 fn run(text: &[u8]) -> Tally {
-    let mut tally = Tally::new();
+    let mut tally = Tally::new(sources::UNKNOWN);
     let mut at = 0;
     while at < text.len() {
-        let end = text::until(text, at, b'\n');
+        let end = text::end_of(text, at, b'\n');
         let next = one_line(&text[at..end], tally.next_line());
         tally = next;
-        at = end;
-        if at < text.len() {
-            at += 1;
-        }
+        at = text::past(text, at, b'\n');
     }
     tally
 }

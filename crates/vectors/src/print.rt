@@ -1,4 +1,4 @@
-// Printing: texts, and numbers under a column's right edge.
+// Printing: texts, and columns.
 use libc::STDOUT_FILENO;
 
 pub fn print(text: &[u8]) {
@@ -9,10 +9,11 @@ pub fn print_decimal(n: u64) {
     io::print_decimal(STDOUT_FILENO, n);
 }
 
-// A text, and blanks up to the column of the numbers.
-pub fn print_left(text: &[u8]) {
-    print(text);
-    print_from(b"                               ", text.len());
+// A row's name, and blanks up to the column of the numbers.
+pub fn print_left(name: &[u8]) {
+    print(b"  ");
+    print(name);
+    print_from(b"                             ", name.len());
 }
 
 // A number, and blanks before it.

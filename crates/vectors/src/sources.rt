@@ -1,35 +1,32 @@
-// The sources: one function for each reads a line of it, runs the vector and counts.
+// The sources: a function for each reads a line of it, runs the vector and counts.
 use crate::c3;
+use crate::calls::Call;
 use crate::calls::Vector;
-use crate::calls::decrypts;
-use crate::calls::encrypts;
 use crate::calls::expands;
+use crate::calls::leads;
 use crate::fault;
 use crate::tally;
 use crate::tally::Tally;
-use crate::text::first;
 use crate::text::place_of;
-use crate::text::read_hex;
-use crate::text::rest;
+use crate::text::read_field;
 use crate::text::spaces;
 
-// A source is its place among the names of all; this number stands for none of them.
-const UNKNOWN: usize = 5;
+// A source is the place of its header among these; this number stands for none of them.
+pub const UNKNOWN: usize = 5;
 
-// A header is # and the name of a source.
 pub fn header(line: &[u8], tally: Tally) -> Tally {
-    if first(line).len() != 1 {
-        return tally.of_source(UNKNOWN).faulty(fault::HEADER);
-    }
-    let source = place_of(
-        rest(line),
-        b"ecb key-expansion c3-states chain-encrypt chain-decrypt",
-        UNKNOWN,
-    );
+    let headers = b"\
+# ecb
+# key expansion
+# rounds
+# chain encrypt
+# chain decrypt";
+    let source = place_of(line, headers, UNKNOWN);
+    let next = tally.of_source(source);
     if source == UNKNOWN {
-        return tally.of_source(UNKNOWN).faulty(fault::HEADER);
+        return next.faulty(fault::HEADER);
     }
-    tally.of_source(source)
+    next
 }
 
 // A line that is no header is a vector of the source that the last header named.
@@ -50,24 +47,8 @@ fn ecb(line: &[u8], tally: Tally) -> Tally {
     if v.fault != fault::NONE {
         return tally.faulty(v.fault);
     }
-    let next = tally.counted(tally::ECB_ENCRYPTED, encrypts(v, 1));
-    next.counted(tally::ECB_DECRYPTED, decrypts(v, 1))
-}
-
-fn chain_encrypt(line: &[u8], tally: Tally) -> Tally {
-    let v = read_vector(line);
-    if v.fault != fault::NONE {
-        return tally.faulty(v.fault);
-    }
-    tally.counted(tally::CHAINS_ENCRYPTED, encrypts(v, 1000))
-}
-
-fn chain_decrypt(line: &[u8], tally: Tally) -> Tally {
-    let v = read_vector(line);
-    if v.fault != fault::NONE {
-        return tally.faulty(v.fault);
-    }
-    tally.counted(tally::CHAINS_DECRYPTED, decrypts(v, 1000))
+    let next = tally.counted(tally::ECB_ENCRYPTED, leads(Call::Encrypt, v, 1));
+    next.counted(tally::ECB_DECRYPTED, leads(Call::Decrypt, v.turned(), 1))
 }
 
 fn key_expansion(line: &[u8], tally: Tally) -> Tally {
@@ -80,37 +61,50 @@ fn key_expansion(line: &[u8], tally: Tally) -> Tally {
     tally.counted(tally::KEY_EXPANSION, expands(&key, &schedule))
 }
 
+fn chain_encrypt(line: &[u8], tally: Tally) -> Tally {
+    let v = read_vector(line);
+    if v.fault != fault::NONE {
+        return tally.faulty(v.fault);
+    }
+    tally.counted(tally::CHAINS_ENCRYPTED, leads(Call::Encrypt, v, 1000))
+}
+
+fn chain_decrypt(line: &[u8], tally: Tally) -> Tally {
+    let v = read_vector(line);
+    if v.fault != fault::NONE {
+        return tally.faulty(v.fault);
+    }
+    tally.counted(
+        tally::CHAINS_DECRYPTED,
+        leads(Call::Decrypt, v.turned(), 1000),
+    )
+}
+
+fn read_two(line: &[u8], key: &mut [u8], schedule: &mut [u8]) -> u8 {
+    if spaces(line) != 1 {
+        return fault::FIELDS;
+    }
+    fault::either(read_field(line, 0, key), read_field(line, 1, schedule))
+}
+
+// The line's plain block is the start, and its cipher block the end.
 fn read_vector(line: &[u8]) -> Vector {
     let mut key = [0u8; 32];
-    let mut plain = [0u8; 16];
-    let mut cipher = [0u8; 16];
-    let fault = read_three(line, &mut key, &mut plain, &mut cipher);
+    let mut start = [0u8; 16];
+    let mut end = [0u8; 16];
+    let fault = read_three(line, &mut key, &mut start, &mut end);
     Vector {
         key,
-        plain,
-        cipher,
+        start,
+        end,
         fault,
     }
 }
 
-fn read_three(line: &[u8], a: &mut [u8], b: &mut [u8], c: &mut [u8]) -> u8 {
+fn read_three(line: &[u8], key: &mut [u8], start: &mut [u8], end: &mut [u8]) -> u8 {
     if spaces(line) != 2 {
         return fault::FIELDS;
     }
-    let fault = read_hex(first(line), a);
-    if fault != fault::NONE {
-        return fault;
-    }
-    read_two(rest(line), b, c)
-}
-
-fn read_two(line: &[u8], a: &mut [u8], b: &mut [u8]) -> u8 {
-    if spaces(line) != 1 {
-        return fault::FIELDS;
-    }
-    let fault = read_hex(first(line), a);
-    if fault != fault::NONE {
-        return fault;
-    }
-    read_hex(rest(line), b)
+    let first = fault::either(read_field(line, 0, key), read_field(line, 1, start));
+    fault::either(first, read_field(line, 2, end))
 }

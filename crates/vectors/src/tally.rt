@@ -4,6 +4,7 @@ use crate::print::print;
 use crate::print::print_decimal;
 use crate::print::print_left;
 use crate::print::print_right;
+use crate::text::part;
 
 // The rows of the table; the last counts what every other row counts.
 pub const ECB_ENCRYPTED: usize = 0;
@@ -26,19 +27,20 @@ pub struct Tally {
     run: [u64; ROWS],
     differ: [u64; ROWS],
     faults: u64,
-    // The number of the line, from 1, and the source that the last header named.
+    // The number of the present line, from 1.
     line: u64,
+    // What the last header named.
     pub source: usize,
 }
 
 impl Tally {
-    pub fn new() -> Tally {
+    pub fn new(source: usize) -> Tally {
         Tally {
             run: [0; ROWS],
             differ: [0; ROWS],
             faults: 0,
             line: 0,
-            source: 0,
+            source,
         }
     }
 
@@ -79,21 +81,36 @@ impl Tally {
 
     pub fn print(self) {
         print(b"AES-256 vectors                      run   differ\n");
-        self.print_row(b"  NIST ECB, encrypted", ECB_ENCRYPTED);
-        self.print_row(b"  NIST ECB, decrypted", ECB_DECRYPTED);
-        self.print_row(b"  FIPS 197 A.3 key expansion", KEY_EXPANSION);
-        self.print_row(b"  FIPS 197 C.3 states", STATES);
-        self.print_row(b"  Monte Carlo chains, encrypted", CHAINS_ENCRYPTED);
-        self.print_row(b"  Monte Carlo chains, decrypted", CHAINS_DECRYPTED);
-        self.print_row(b"  all", ALL);
+        self.print_rows();
         print(b"lines that could not be read: ");
         print_decimal(self.faults);
         print(b"\n");
     }
 
-    fn print_row(self, name: &[u8], row: usize) {
+    fn print_rows(self) {
+        let mut row = 0;
+        while row < ROWS {
+            self.print_row(row);
+            row += 1;
+        }
+    }
+
+    // The names stand in the order of the rows.
+    fn print_row(self, row: usize) {
+        let names = b"\
+NIST ECB, encrypted
+NIST ECB, decrypted
+FIPS 197 A.3 key expansion
+FIPS 197 C.3 states
+Monte Carlo chains, encrypted
+Monte Carlo chains, decrypted
+all";
+        print_left(part(names, row, b'\n'));
+        self.print_counts(row);
+    }
+
+    fn print_counts(self, row: usize) {
         if row < ROWS {
-            print_left(name);
             print_right(self.run[row]);
             print_right(self.differ[row]);
             print(b"\n");
@@ -101,7 +118,7 @@ impl Tally {
     }
 }
 
-// The input is too short for a count to come near the bound, which only spares its sums a proof.
+// The input is too short for a count to reach the bound.
 fn one_more(n: u64) -> u64 {
     if n < 1000000 { n + 1 } else { n }
 }

@@ -1,11 +1,11 @@
-// Reading a line: fields between single spaces, and the bytes that a field spells.
-ghost use Prim.Native.Nat.{_≤_, _<_};
+// Reading the text. Its lines end at newlines, a line's fields at single spaces.
+ghost use Prim.Native.Nat.{_+_, _-_, _≤_};
 ghost use lib.ListN.{length};
 use crate::fault;
 use check::same;
 
 // Where the part that starts at from ends: at the next stop, or at the end of the text.
-pub fn until(text: &[u8], from: usize, stop: u8) -> usize
+pub fn end_of(text: &[u8], from: usize, stop: u8) -> usize
     requires { ⌜ from ≤ length (now text) ⌝ }
     ensures { λ r. ⌜ (from ≤ r) × (r ≤ length (now (text .entry))) ⌝ }
 {
@@ -19,21 +19,37 @@ pub fn until(text: &[u8], from: usize, stop: u8) -> usize
     at
 }
 
-// The first field: all before the first space.
-pub fn first(line: &[u8]) -> &[u8] {
-    let end = until(line, 0, b' ');
-    &line[0..end]
+// Where the part after that one starts: past the stop, or at the end of the text. Less is left there, unless nothing was left.
+pub fn past(text: &[u8], from: usize, stop: u8) -> usize
+    requires { ⌜ from ≤ length (now text) ⌝ }
+    ensures { λ r. ⌜ (r ≤ length (now (text .entry))) × (length (now (text .entry)) - r ≤ length (now (text .entry)) - (from + 1)) ⌝ }
+{
+    let end = end_of(text, from, stop);
+    if end < text.len() { end + 1 } else { end }
 }
 
-// The other fields: all after the first space.
-pub fn rest(line: &[u8]) -> &[u8] {
-    let end = until(line, 0, b' ');
-    if end < line.len() {
-        let next = end + 1;
-        &line[next..]
-    } else {
-        &line[end..]
+// Part n of a text, from 0; empty where the text has fewer.
+pub fn part(text: &[u8], n: usize, stop: u8) -> &[u8] {
+    let mut from = 0;
+    let mut i = 0;
+    while i < n {
+        from = past(text, from, stop);
+        i += 1;
     }
+    let end = end_of(text, from, stop);
+    &text[from..end]
+}
+
+// Which of the first count lines of a list this line is, from 0; count, where it is none of them.
+pub fn place_of(line: &[u8], list: &[u8], count: usize) -> usize {
+    let mut n = 0;
+    while n < count {
+        if same(line, part(list, n, b'\n')) {
+            return n;
+        }
+        n += 1;
+    }
+    n
 }
 
 // A line has one field more than spaces.
@@ -49,50 +65,51 @@ pub fn spaces(line: &[u8]) -> usize {
     n
 }
 
-// Which of the first count words word is, from 0; count, where it is none of them.
-pub fn place_of(word: &[u8], words: &[u8], count: usize) -> usize {
-    let mut left = words;
-    let mut n = 0;
-    while n < count {
-        if same(first(left), word) {
-            return n;
-        }
-        let next = rest(left);
-        left = next;
-        n += 1;
-    }
-    n
-}
-
-// Fills out with the bytes that a field spells, two digits each.
-pub fn read_hex(field: &[u8], out: &mut [u8]) -> u8 {
-    if field.len() / 2 != out.len() {
-        return fault::LENGTH;
-    }
+// Fills out with the bytes that field n of a line spells, two digits each, and answers what is wrong with the field.
+pub fn read_field(line: &[u8], n: usize, out: &mut [u8]) -> u8 {
+    let field = part(line, n, b' ');
     if field.len() % 2 != 0 {
         return fault::LENGTH;
     }
+    if field.len() / 2 != out.len() {
+        return fault::LENGTH;
+    }
+    read_hex(field, out)
+}
+
+fn read_hex(field: &[u8], out: &mut [u8]) -> u8
+    requires { ⌜ length (now out) + length (now out) ≤ length (now field) ⌝ }
+{
     let mut i = 0;
     while i < out.len() {
-        let high = digit(field[2 * i]);
-        let low = digit(field[2 * i + 1]);
-        if 15 < high {
+        let value = byte(field[2 * i], field[2 * i + 1]);
+        if 255 < value {
             return fault::DIGIT;
         }
-        if 15 < low {
-            return fault::DIGIT;
-        }
-        out[i] = high * 16 + low;
+        out[i] = value as u8;
         i += 1;
     }
     fault::NONE
 }
 
-// The value of a hex digit, in lower case; 16 where the character is none.
-fn digit(c: u8) -> u8 {
+// The byte that two digits spell; 256 where one of them is no digit.
+fn byte(high: u8, low: u8) -> u16 {
+    let h = digit(high);
+    let l = digit(low);
+    if 15 < h {
+        return 256;
+    }
+    if 15 < l {
+        return 256;
+    }
+    16 * h + l
+}
+
+// The value of a hex digit in lower case; 16 where the character is none.
+fn digit(c: u8) -> u16 {
     match c {
-        b'0'..=b'9' => c - b'0',
-        b'a'..=b'f' => c - b'a' + 10,
+        b'0'..=b'9' => (c - b'0') as u16,
+        b'a'..=b'f' => (c - b'a' + 10) as u16,
         _ => 16,
     }
 }

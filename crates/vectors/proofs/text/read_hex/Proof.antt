@@ -1,4 +1,4 @@
--- `vectors::text::read_hex` is safe and ends: stores keep the length of `out`, which has a byte for two digits of the field.
+-- `vectors::text::read_hex` is safe and ends: stores keep the length of `out`, and the field has two digits for each byte of it.
 -- Assumes nothing.
 use Prim.Native.Nat.{_≤_, _-_}
 use mathlib.Core.Path.{_≡_}
@@ -17,8 +17,7 @@ pub read-hex-spec : {M : Type 1} → statement M
 read-hex-spec =
     tie.close
     (tie.spec Inv-loop μ-loop (λ c. search needs) (λ c. search needs) (λ c. search needs) (λ c. search needs)
-    (λ c. search needs) (λ c κs. search needs) (λ c. search needs) (λ c. search needs) (λ c. search needs)
-    (λ c κs. search needs) (λ c. search needs) (λ c. search needs) (λ c. search needs) (λ c. search needs)
-    (λ c. search needs) (λ c. search needs) (λ c. search needs) (λ c. search needs) (λ c. search needs)
-    (λ c. (simp length-set (c .before .before .before .before .before .before .before .loop .inv .0), search needs))
+    (λ c. search needs) (λ c. search needs) (λ c κs. search needs) (λ c. search needs) (λ c. search needs)
+    (λ c. search needs) (λ c. search needs) (λ c. search needs) (λ c. search needs)
+    (λ c. (simp length-set (c .before .before .before .before .before .loop .inv .0), search needs))
     (λ c. search needs) (λ c. search needs))

@@ -1,4 +1,4 @@
--- `vectors::text::spaces` is safe and ends: it counts at most one space for each byte that is passed.
+-- `vectors::text::spaces` is safe and ends: it counts at most one space for each byte that it passes.
 -- Assumes nothing.
 use Prim.Native.Nat.{_≤_, _-_}
 use native.Mathlib.Omega.{arith}
