@@ -1,159 +1,106 @@
 // The states of FIPS 197 appendix C.3: one key, one block, and every state on the way to the last.
-ghost use mathlib.Core.Path.{_≡_};
-ghost use Prim.Native.Nat.{_≤_};
-use crate::calls::expand;
+use crate::counts;
+use crate::counts::CELLS;
+use crate::counts::count;
 use crate::fault;
-use crate::tally;
-use crate::tally::Tally;
 use crate::text::part;
 use crate::text::place_of;
 use crate::text::read_field;
-use crate::text::spaces;
 use aes::reply::DONE;
 use check::same;
 
-// Where a state stands: its number in the record of a run, or in the schedule.
-enum Place {
-    Recorded(usize),
-    Scheduled(usize),
-    Nowhere,
-}
-
 const NAMES: usize = 7;
 
-// A line is a round, a state's name and the state.
-pub fn state(line: &[u8], tally: Tally) -> Tally {
-    if spaces(line) != 2 {
-        return tally.faulty(fault::FIELDS);
-    }
-    let name = name_of(part(line, 1, b' '));
-    if name == NAMES {
-        return tally.faulty(fault::NAME);
-    }
-    let place = placed(name, round_of(part(line, 0, b' ')));
-    if let Place::Nowhere = place {
-        return tally.faulty(fault::ROUND);
-    }
+const ROUNDS: usize = 15;
+
+// A state's place is its number in the record, or this number and its own in the schedule.
+const SCHEDULED: usize = 71;
+
+const NOWHERE: usize = 86;
+
+// A round, the name of a state and the state.
+pub fn state(line: &[u8], counts: &mut [u64; CELLS]) -> u8 {
     let mut state = [0u8; 16];
-    let fault = read_field(line, 2, &mut state);
+    let fault = read_field(line, 2, 2, &mut state);
     if fault != fault::NONE {
-        return tally.faulty(fault);
+        return fault;
     }
-    tally.counted(tally::STATES, stands(place, &state))
-}
-
-fn name_of(field: &[u8]) -> usize {
-    let names = b"\
-input
-start
-s_box
-s_row
-m_col
-k_sch
-output";
-    place_of(field, names, NAMES)
-}
-
-// One digit, or two of which the first is 1; any other field is a round that is out of range.
-fn round_of(field: &[u8]) -> usize {
-    if field.len() == 1 {
-        return units(field[0]);
+    let name = name_of(line);
+    if name == NAMES {
+        return fault::NAME;
     }
-    if field.len() == 2 {
-        if field[0] == b'1' {
-            return units(field[1]) + 10;
-        }
+    let place = place(name, round_of(line));
+    if place == NOWHERE {
+        return fault::ROUND;
     }
-    99
+    count(counts, counts::STATES, stands(place, &state));
+    fault::NONE
 }
 
-fn units(c: u8) -> usize
-    ensures { λ r. ⌜ r ≤ 99 ⌝ }
-{
-    match c {
-        b'0'..=b'9' => wide(c - b'0'),
-        _ => 99,
-    }
+fn round_of(line: &[u8]) -> usize {
+    place_of(
+        part(line, 0, b' '),
+        b"0\n1\n2\n3\n4\n5\n6\n7\n8\n9\n10\n11\n12\n13\n14",
+        ROUNDS,
+    )
 }
 
-fn wide(n: u8) -> usize
-    ensures { λ r. ⌜ r ≡ n ⌝ }
-{
-    n as usize
+fn name_of(line: &[u8]) -> usize {
+    place_of(
+        part(line, 1, b' '),
+        b"input\nstart\ns_box\ns_row\nm_col\nk_sch\noutput",
+        NAMES,
+    )
 }
 
-// Names are numbered in the order above.
-fn placed(name: usize, round: usize) -> Place {
-    if 14 < round {
-        return Place::Nowhere;
+// The record has the block, and five states for each round from 1 on, of which the last round mixes no columns.
+fn place(name: usize, round: usize) -> usize {
+    if ROUNDS <= round {
+        return NOWHERE;
     }
     match name {
-        0 => if round == 0 {
-            Place::Recorded(0)
+        0 => if round == 0 { 0 } else { NOWHERE },
+        1..=3 => if round == 0 {
+            NOWHERE
         } else {
-            Place::Nowhere
+            5 * round - 5 + name
         },
-        1..=4 => in_round(name, round),
-        5 => Place::Scheduled(round),
-        _ => if round == 14 {
-            Place::Recorded(70)
+        4 => if round % 14 == 0 {
+            NOWHERE
         } else {
-            Place::Nowhere
+            5 * round - 5 + name
         },
+        5 => SCHEDULED + round,
+        _ => if round == 14 { 70 } else { NOWHERE },
     }
 }
 
-// The record has five states for each round from 1 on; the last round mixes no columns.
-fn in_round(step: usize, round: usize) -> Place
-    requires { ⌜ (step ≤ 4) × (round ≤ 14) ⌝ }
-{
-    if round == 0 {
-        return Place::Nowhere;
-    }
-    if round == 14 {
-        if step == 4 {
-            return Place::Nowhere;
-        }
-    }
-    Place::Recorded(5 * (round - 1) + step)
-}
-
-// Whether the library has this state in its place.
-fn stands(place: Place, state: &[u8; 16]) -> bool {
-    match place {
-        Place::Recorded(n) => recorded(n, state),
-        Place::Scheduled(n) => scheduled(n, state),
-        Place::Nowhere => false,
-    }
-}
-
-fn recorded(n: usize, state: &[u8; 16]) -> bool {
-    let key = key();
-    let block = *b"\x00\x11\x22\x33\x44\x55\x66\x77\x88\x99\xaa\xbb\xcc\xdd\xee\xff";
+// Whether the library has the state in its place.
+fn stands(place: usize, state: &[u8; 16]) -> bool {
     let mut schedule = [0u8; 240];
-    if expand(&key, &mut schedule) != DONE {
-        return false;
-    }
-    let mut record = [0u8; 1136];
-    if aes::record_plain(&schedule, &block, &mut record) != DONE {
-        return false;
-    }
-    state_is(&record, n, state)
-}
-
-fn scheduled(n: usize, state: &[u8; 16]) -> bool {
-    let key = key();
-    let mut schedule = [0u8; 240];
-    if expand(&key, &mut schedule) != DONE {
-        return false;
-    }
-    state_is(&schedule, n, state)
-}
-
-fn key() -> [u8; 32] {
-    *b"\
+    if aes::expand_key(
+        b"\
 \x00\x01\x02\x03\x04\x05\x06\x07\x08\x09\x0a\x0b\x0c\x0d\x0e\x0f\
-\x10\x11\x12\x13\x14\x15\x16\x17\x18\x19\x1a\x1b\x1c\x1d\x1e\x1f"
+\x10\x11\x12\x13\x14\x15\x16\x17\x18\x19\x1a\x1b\x1c\x1d\x1e\x1f",
+        &mut schedule,
+    )
+        != DONE
+    {
+        return false;
+    }
+    if SCHEDULED <= place {
+        return state_is(&schedule, place - SCHEDULED, state);
+    }
+    recorded(&schedule, place, state)
+}
+
+fn recorded(schedule: &[u8; 240], place: usize, state: &[u8; 16]) -> bool {
+    let block = b"\x00\x11\x22\x33\x44\x55\x66\x77\x88\x99\xaa\xbb\xcc\xdd\xee\xff";
+    let mut record = [0u8; 1136];
+    if aes::record_plain(schedule, block, &mut record) != DONE {
+        return false;
+    }
+    state_is(&record, place, state)
 }
 
 fn state_is(states: &[u8], n: usize, state: &[u8]) -> bool {

@@ -2,49 +2,32 @@
 use aes::reply::DONE;
 use check::same;
 
-// A key, and two blocks of which a call is to lead from the one to the other.
-pub struct Vector {
-    pub key: [u8; 32],
-    pub start: [u8; 16],
-    pub end: [u8; 16],
-    // What is wrong with the line that it was read from.
-    pub fault: u8,
-}
-
-impl Vector {
-    // For the inverse call.
-    pub fn turned(self) -> Vector {
-        let key = self.key;
-        let start = self.end;
-        let end = self.start;
-        Vector {
-            key,
-            start,
-            end,
-            fault: self.fault,
-        }
-    }
-}
-
 pub enum Call {
     Encrypt,
     Decrypt,
 }
 
-// Whether so many calls, each on the output of the one before, lead from the start to the end.
-pub fn leads(call: Call, v: Vector, times: usize) -> bool {
-    let key = v.key;
-    let start = v.start;
-    let end = v.end;
+// Whether so many calls, each on the output of the one before, lead from the one block to the other: from the plain block to
+// the cipher block, or back.
+pub fn leads(
+    call: Call,
+    times: usize,
+    key: &[u8; 32],
+    plain: &[u8; 16],
+    cipher: &[u8; 16],
+) -> bool {
     let mut schedule = [0u8; 240];
-    if expand(&key, &mut schedule) != DONE {
+    if aes::expand_key(key, &mut schedule) != DONE {
         return false;
     }
-    chain(call, &schedule, start, &end, times)
+    match call {
+        Call::Encrypt => chain(call, times, &schedule, plain, cipher),
+        Call::Decrypt => chain(call, times, &schedule, cipher, plain),
+    }
 }
 
-fn chain(call: Call, schedule: &[u8; 240], start: [u8; 16], end: &[u8; 16], times: usize) -> bool {
-    let mut block = start;
+fn chain(call: Call, times: usize, schedule: &[u8; 240], start: &[u8; 16], end: &[u8; 16]) -> bool {
+    let mut block = *start;
     let mut i = 0;
     while i < times {
         let mut output = [0u8; 16];
@@ -64,19 +47,15 @@ fn answer(call: Call, schedule: &[u8; 240], input: &[u8; 16], output: &mut [u8; 
     }
 }
 
+fn same_block(a: &[u8; 16], b: &[u8; 16]) -> bool {
+    same(a, b)
+}
+
 // Whether the key expands to the schedule.
 pub fn expands(key: &[u8; 32], schedule: &[u8; 240]) -> bool {
     let mut made = [0u8; 240];
-    if expand(key, &mut made) != DONE {
+    if aes::expand_key(key, &mut made) != DONE {
         return false;
     }
     same(&made, schedule)
-}
-
-pub fn expand(key: &[u8; 32], schedule: &mut [u8]) -> u8 {
-    aes::expand_key(key, schedule)
-}
-
-fn same_block(a: &[u8; 16], b: &[u8; 16]) -> bool {
-    same(a, b)
 }

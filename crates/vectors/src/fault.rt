@@ -1,6 +1,9 @@
 // What can be wrong with a line: a number for each cause, and its words.
+use crate::counts;
+use crate::counts::CELLS;
 use crate::print::print;
 use crate::text::part;
+use libc::STDOUT_FILENO;
 
 pub const NONE: u8 = 0;
 
@@ -18,17 +21,28 @@ pub const NAME: u8 = 6;
 
 pub const ROUND: u8 = 7;
 
+// Says what is wrong with a line, where something is, and counts it.
+pub fn report(line: usize, fault: u8, counts: &mut [u64; CELLS]) {
+    if fault != NONE {
+        counts::bump(counts, counts::FAULTS);
+        print(b"line ");
+        io::print_decimal(STDOUT_FILENO, line as u64);
+        print_words(fault);
+    }
+}
+
 // The words stand in the order of the numbers.
-pub fn print_words(fault: u8) {
+fn print_words(fault: u8) {
     let words = b"\
 nothing is wrong
 a header that names no source
-no header above it says how to read it
+no header above says how to read it
 a field is missing, or there are too many
 a field has the wrong length
 a field has a character that is no hex digit
 a state has an unknown name
 a round is out of range";
+    print(b": ");
     print(part(words, fault as usize, b'\n'));
     print(b"\n");
 }

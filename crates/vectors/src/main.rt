@@ -2,23 +2,25 @@
 // that starts with # names the source of the lines below it; each other line is one vector.
 mod c3;
 mod calls;
+mod counts;
 mod fault;
 mod print;
 mod sources;
-mod tally;
 mod text;
 
 ghost use mathlib.Core.Path.{_≡_};
 ghost use lib.ListN.{length};
+use counts::CELLS;
 use libc::STDIN_FILENO;
 use print::print;
-use tally::Tally;
 
 fn main() {
     let mut text = room();
     let n = io::read_full(STDIN_FILENO, &mut text);
     if at_end() {
-        run(&text[..n]).print();
+        let mut counts = [0u64; CELLS];
+        run(&text[..n], &mut counts);
+        counts::print_table(&counts);
     } else {
         print(b"The input is longer than 196608 bytes, or a read failed: nothing was run.\n");
     }
@@ -36,23 +38,33 @@ fn at_end() -> bool {
     libc::read(STDIN_FILENO, &mut more) == 0
 }
 
-fn run(text: &[u8]) -> Tally {
-    let mut tally = Tally::new(sources::UNKNOWN);
+fn run(text: &[u8], counts: &mut [u64; CELLS]) {
+    let mut source = sources::UNKNOWN;
+    let mut number = 0;
     let mut at = 0;
     while at < text.len() {
+        number += 1;
         let end = text::end_of(text, at, b'\n');
-        let next = one_line(&text[at..end], tally.next_line());
-        tally = next;
+        source = one_line(&text[at..end], number, source, counts);
         at = text::past(text, at, b'\n');
     }
-    tally
 }
 
-fn one_line(line: &[u8], tally: Tally) -> Tally {
+// Answers the source of the lines below.
+fn one_line(line: &[u8], number: usize, source: usize, counts: &mut [u64; CELLS]) -> usize {
     if 0 < line.len() {
         if line[0] == b'#' {
-            return sources::header(line, tally);
+            return header(line, number, counts);
         }
     }
-    sources::run(line, tally)
+    fault::report(number, sources::run(line, source, counts), counts);
+    source
+}
+
+fn header(line: &[u8], number: usize, counts: &mut [u64; CELLS]) -> usize {
+    let source = sources::source_of(line);
+    if source == sources::UNKNOWN {
+        fault::report(number, fault::HEADER, counts);
+    }
+    source
 }

@@ -1,22 +1,11 @@
-// Printing: texts, and columns.
+// Printing: texts, and numbers in a column.
 use libc::STDOUT_FILENO;
 
 pub fn print(text: &[u8]) {
     io::write_all(STDOUT_FILENO, text);
 }
 
-pub fn print_decimal(n: u64) {
-    io::print_decimal(STDOUT_FILENO, n);
-}
-
-// A row's name, and blanks up to the column of the numbers.
-pub fn print_left(name: &[u8]) {
-    print(b"  ");
-    print(name);
-    print_from(b"                             ", name.len());
-}
-
-// A number, and blanks before it.
+// A number, with blanks before it.
 pub fn print_right(n: u64) {
     let mut digits = [0u8; 20];
     let k = io::decimal(n, &mut digits);

@@ -65,8 +65,12 @@ pub fn spaces(line: &[u8]) -> usize {
     n
 }
 
-// Fills out with the bytes that field n of a line spells, two digits each, and answers what is wrong with the field.
-pub fn read_field(line: &[u8], n: usize, out: &mut [u8]) -> u8 {
+// Fills out with the bytes that field n of a line spells, two digits each, and answers what is wrong. The line is to end with
+// the field last.
+pub fn read_field(line: &[u8], n: usize, last: usize, out: &mut [u8]) -> u8 {
+    if spaces(line) != last {
+        return fault::FIELDS;
+    }
     let field = part(line, n, b' ');
     if field.len() % 2 != 0 {
         return fault::LENGTH;

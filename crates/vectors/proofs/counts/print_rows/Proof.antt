@@ -1,15 +1,15 @@
--- `vectors::tally::Tally::print_rows` is safe and ends: the rows that are left count down.
+-- `vectors::counts::print_rows` is safe and ends: the rows that are left count down.
 -- Assumes nothing.
 use Prim.Native.Nat.{_≤_, _-_}
 use borrow.Author.Needs.{needs}
-use Rattle.vectors.proofs.tally.Tally.print_rows.Statement.{statement}
-use Rattle.vectors.proofs.tally.Tally.print_rows.Tie as tie
+use Rattle.vectors.proofs.counts.print_rows.Statement.{statement}
+use Rattle.vectors.proofs.counts.print_rows.Tie as tie
 
 abbrev Inv-loop : tie.InvT-loop
-Inv-loop self row₀ row = row ≤ 7
+Inv-loop counts row₀ row = row ≤ 7
 
 abbrev μ-loop : tie.MeasureT-loop
-μ-loop self row₀ row = 7 - row
+μ-loop counts row₀ row = 7 - row
 
 pub print-rows-spec : {M : Type 1} → statement M
 print-rows-spec =
