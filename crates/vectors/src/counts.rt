@@ -48,9 +48,9 @@ pub fn bump(counts: &mut [u64; CELLS], cell: usize) {
 }
 
 pub fn print_table(counts: &[u64; CELLS]) {
-    print(b"AES-256 vectors                      run   differ\n");
+    print(b"AES-256 vectors                      run   differ");
     print_rows(counts);
-    print(b"lines that could not be read: ");
+    print(b"\nlines that could not be read: ");
     io::print_decimal(STDOUT_FILENO, counts[FAULTS]);
     print(b"\n");
 }
@@ -63,8 +63,17 @@ fn print_rows(counts: &[u64; CELLS]) {
     }
 }
 
-// The names stand in the order of the rows.
 fn print_row(counts: &[u64; CELLS], row: usize) {
+    if row < ROWS {
+        print(b"\n  ");
+        print_name(row);
+        print_right(counts[row]);
+        print_right(counts[ROWS + row]);
+    }
+}
+
+// The names stand in the order of the rows, all of one length.
+fn print_name(row: usize) {
     let names = b"\
 NIST ECB, encrypted          \n\
 NIST ECB, decrypted          \n\
@@ -73,11 +82,5 @@ FIPS 197 C.3 states          \n\
 Monte Carlo chains, encrypted\n\
 Monte Carlo chains, decrypted\n\
 all                          ";
-    if row < ROWS {
-        print(b"  ");
-        print(part(names, row, b'\n'));
-        print_right(counts[row]);
-        print_right(counts[ROWS + row]);
-        print(b"\n");
-    }
+    print(part(names, row, b'\n'));
 }

@@ -27,7 +27,9 @@ pub fn report(line: usize, fault: u8, counts: &mut [u64; CELLS]) {
         counts::bump(counts, counts::FAULTS);
         print(b"line ");
         io::print_decimal(STDOUT_FILENO, line as u64);
+        print(b": ");
         print_words(fault);
+        print(b"\n");
     }
 }
 
@@ -42,9 +44,7 @@ a field has the wrong length
 a field has a character that is no hex digit
 a state has an unknown name
 a round is out of range";
-    print(b": ");
     print(part(words, fault as usize, b'\n'));
-    print(b"\n");
 }
 
 // The first of two faults, where there is one.
