@@ -13,7 +13,7 @@ const NAMES: usize = 7;
 
 const ROUNDS: usize = 15;
 
-// A state's place is its number in the record, or this number and its own in the schedule.
+// A state stands at its number in the record; a round key, at its own number after these.
 const SCHEDULED: usize = 71;
 
 const NOWHERE: usize = 86;
@@ -53,7 +53,7 @@ fn name_of(line: &[u8]) -> usize {
     )
 }
 
-// The record has the block, and five states for each round from 1 on, of which the last round mixes no columns.
+// The record has the block, and then five states for each round from 1 on. Rounds 0 and 14 mix no columns.
 fn place(name: usize, round: usize) -> usize {
     if ROUNDS <= round {
         return NOWHERE;
@@ -77,15 +77,11 @@ fn place(name: usize, round: usize) -> usize {
 
 // Whether the library has the state in its place.
 fn stands(place: usize, state: &[u8; 16]) -> bool {
-    let mut schedule = [0u8; 240];
-    if aes::expand_key(
-        b"\
+    let key = b"\
 \x00\x01\x02\x03\x04\x05\x06\x07\x08\x09\x0a\x0b\x0c\x0d\x0e\x0f\
-\x10\x11\x12\x13\x14\x15\x16\x17\x18\x19\x1a\x1b\x1c\x1d\x1e\x1f",
-        &mut schedule,
-    )
-        != DONE
-    {
+\x10\x11\x12\x13\x14\x15\x16\x17\x18\x19\x1a\x1b\x1c\x1d\x1e\x1f";
+    let mut schedule = [0u8; 240];
+    if aes::expand_key(key, &mut schedule) != DONE {
         return false;
     }
     if SCHEDULED <= place {
