@@ -1,7 +1,5 @@
 // What was run, what differed and what could not be read, and the table of it.
 use crate::print::print;
-use crate::print::print_right;
-use crate::text::part;
 use libc::STDOUT_FILENO;
 
 // The rows of the table. The last counts what every other row counts.
@@ -21,7 +19,7 @@ const ALL: usize = 6;
 
 const ROWS: usize = 7;
 
-// Where the faults are counted: after the vectors that were run, row by row, and those that differ.
+// A row has two cells, for the vectors that were run and for those that differ; the last cell counts the faults.
 pub const FAULTS: usize = 2 * ROWS;
 
 pub const CELLS: usize = 2 * ROWS + 1;
@@ -29,11 +27,11 @@ pub const CELLS: usize = 2 * ROWS + 1;
 // One vector more, in its own row and in the last.
 pub fn count(counts: &mut [u64; CELLS], row: usize, same: bool) {
     if row < ROWS {
-        bump(counts, row);
-        bump(counts, ALL);
+        bump(counts, 2 * row);
+        bump(counts, 2 * ALL);
         if !same {
-            bump(counts, ROWS + row);
-            bump(counts, ROWS + ALL);
+            bump(counts, 2 * row + 1);
+            bump(counts, 2 * ALL + 1);
         }
     }
 }
@@ -48,39 +46,51 @@ pub fn bump(counts: &mut [u64; CELLS], cell: usize) {
 }
 
 pub fn print_table(counts: &[u64; CELLS]) {
-    print(b"AES-256 vectors                      run   differ");
-    print_rows(counts);
-    print(b"\nlines that could not be read: ");
+    let mut table = zeros();
+    fill(&mut table, counts);
+    print_whole(&table);
+    print(b"lines that could not be read: ");
     io::print_decimal(STDOUT_FILENO, counts[FAULTS]);
     print(b"\n");
 }
 
-fn print_rows(counts: &[u64; CELLS]) {
-    let mut row = 0;
-    while row < ROWS {
-        print_row(counts, row);
-        row += 1;
+fn print_whole(table: &[u8; 400]) {
+    print(table);
+}
+
+// The table before anything is counted: in lines of fifty bytes, with columns that end at byte 39 and 48.
+fn zeros() -> [u8; 400] {
+    *b"\
+AES-256 vectors                      run   differ
+  NIST ECB, encrypted                  0        0
+  NIST ECB, decrypted                  0        0
+  FIPS 197 A.3 key expansion           0        0
+  FIPS 197 C.3 states                  0        0
+  Monte Carlo chains, encrypted        0        0
+  Monte Carlo chains, decrypted        0        0
+  all                                  0        0
+"
+}
+
+fn fill(table: &mut [u8; 400], counts: &[u64; CELLS]) {
+    let mut cell = 0;
+    while cell < FAULTS {
+        put(table, 50 * (cell / 2) + 9 * (cell % 2) + 89, counts[cell]);
+        cell += 1;
     }
 }
 
-fn print_row(counts: &[u64; CELLS], row: usize) {
-    if row < ROWS {
-        print(b"\n  ");
-        print_name(row);
-        print_right(counts[row]);
-        print_right(counts[ROWS + row]);
+// Puts the digits of a number into the table, the last of them at the place last. A zero is there already.
+fn put(table: &mut [u8; 400], last: usize, n: u64) {
+    let mut at = last;
+    let mut rest = n;
+    while 0 < rest {
+        if at < 400 {
+            table[at] = b'0' + (rest % 10) as u8;
+        }
+        rest /= 10;
+        if 0 < at {
+            at -= 1;
+        }
     }
-}
-
-// The names stand in the order of the rows, all of one length.
-fn print_name(row: usize) {
-    let names = b"\
-NIST ECB, encrypted          \n\
-NIST ECB, decrypted          \n\
-FIPS 197 A.3 key expansion   \n\
-FIPS 197 C.3 states          \n\
-Monte Carlo chains, encrypted\n\
-Monte Carlo chains, decrypted\n\
-all                          ";
-    print(part(names, row, b'\n'));
 }
