@@ -1,6 +1,5 @@
 // What was run, what differed and what could not be read, and the table of it.
 use crate::print::print;
-use libc::STDOUT_FILENO;
 
 // The rows of the table. The last counts what every other row counts.
 pub const ECB_ENCRYPTED: usize = 0;
@@ -49,17 +48,14 @@ pub fn print_table(counts: &[u64; CELLS]) {
     let mut table = zeros();
     fill(&mut table, counts);
     print_whole(&table);
-    print(b"lines that could not be read: ");
-    io::print_decimal(STDOUT_FILENO, counts[FAULTS]);
-    print(b"\n");
 }
 
-fn print_whole(table: &[u8; 400]) {
+fn print_whole(table: &[u8; 441]) {
     print(table);
 }
 
 // The table before anything is counted: in lines of fifty bytes, with columns that end at byte 39 and 48.
-fn zeros() -> [u8; 400] {
+fn zeros() -> [u8; 441] {
     *b"\
 AES-256 vectors                      run   differ
   NIST ECB, encrypted                  0        0
@@ -69,23 +65,24 @@ AES-256 vectors                      run   differ
   Monte Carlo chains, encrypted        0        0
   Monte Carlo chains, decrypted        0        0
   all                                  0        0
+lines that could not be read           0
 "
 }
 
-fn fill(table: &mut [u8; 400], counts: &[u64; CELLS]) {
+fn fill(table: &mut [u8; 441], counts: &[u64; CELLS]) {
     let mut cell = 0;
-    while cell < FAULTS {
+    while cell < CELLS {
         put(table, 50 * (cell / 2) + 9 * (cell % 2) + 89, counts[cell]);
         cell += 1;
     }
 }
 
 // Puts the digits of a number into the table, the last of them at the place last. A zero is there already.
-fn put(table: &mut [u8; 400], last: usize, n: u64) {
+fn put(table: &mut [u8; 441], last: usize, n: u64) {
     let mut at = last;
     let mut rest = n;
     while 0 < rest {
-        if at < 400 {
+        if at < 441 {
             table[at] = b'0' + (rest % 10) as u8;
         }
         rest /= 10;

@@ -81,39 +81,27 @@ pub fn read_field(line: &[u8], n: usize, last: usize, out: &mut [u8]) -> u8 {
     read_hex(field, out)
 }
 
+// A byte keeps its last four bits, as the first of its digits, where the next one comes in.
 fn read_hex(field: &[u8], out: &mut [u8]) -> u8
-    requires { ⌜ length (now out) + length (now out) ≤ length (now field) ⌝ }
+    requires { ⌜ length (now field) ≤ length (now out) + length (now out) ⌝ }
 {
     let mut i = 0;
-    while i < out.len() {
-        let value = byte(field[2 * i], field[2 * i + 1]);
-        if 255 < value {
+    while i < field.len() {
+        let value = digit(field[i]);
+        if 15 < value {
             return fault::DIGIT;
         }
-        out[i] = value as u8;
+        out[i / 2] = out[i / 2] % 16 * 16 + value;
         i += 1;
     }
     fault::NONE
 }
 
-// The byte that two digits spell; 256 where one of them is no digit.
-fn byte(high: u8, low: u8) -> u16 {
-    let h = digit(high);
-    let l = digit(low);
-    if 15 < h {
-        return 256;
-    }
-    if 15 < l {
-        return 256;
-    }
-    16 * h + l
-}
-
 // The value of a hex digit in lower case; 16 where the character is none.
-fn digit(c: u8) -> u16 {
+fn digit(c: u8) -> u8 {
     match c {
-        b'0'..=b'9' => (c - b'0') as u16,
-        b'a'..=b'f' => (c - b'a' + 10) as u16,
+        b'0'..=b'9' => c - b'0',
+        b'a'..=b'f' => c - b'a' + 10,
         _ => 16,
     }
 }

@@ -1,4 +1,4 @@
--- `vectors::text::read_hex` is safe and ends: stores keep the length of `out`, and the field has two digits for each byte of it.
+-- `vectors::text::read_hex` is safe and ends: stores keep the length of `out`, which has a byte for each two digits of the field.
 -- Assumes nothing.
 use Prim.Native.Nat.{_≤_, _-_}
 use mathlib.Core.Path.{_≡_}
@@ -8,16 +8,14 @@ use Rattle.vectors.proofs.text.read_hex.Statement.{statement}
 use Rattle.vectors.proofs.text.read_hex.Tie as tie
 
 abbrev Inv-loop : tie.InvT-loop
-Inv-loop field out₀ i₀ out i = (length out ≡ length out₀) × (i ≤ length out₀)
+Inv-loop field out₀ i₀ out i = (length out ≡ length out₀) × (i ≤ length field)
 
 abbrev μ-loop : tie.MeasureT-loop
-μ-loop field out₀ i₀ out i = length out₀ - i
+μ-loop field out₀ i₀ out i = length field - i
 
 pub read-hex-spec : {M : Type 1} → statement M
 read-hex-spec =
     tie.close
-    (tie.spec Inv-loop μ-loop (λ c. search needs) (λ c. search needs) (λ c. search needs) (λ c. search needs)
-    (λ c. search needs) (λ c. search needs) (λ c κs. search needs) (λ c. search needs) (λ c. search needs)
-    (λ c. search needs) (λ c. search needs) (λ c. search needs) (λ c. search needs)
-    (λ c. (simp length-set (c .before .before .before .before .before .loop .inv .0), search needs))
-    (λ c. search needs) (λ c. search needs))
+    (tie.spec Inv-loop μ-loop (λ c. search needs) (λ c. search needs) (λ c κs. search needs) (λ c. search needs) (λ c. search needs)
+    (λ c. search needs) (λ c. search needs) (λ c. search needs) (λ c. search needs) (λ c. search needs) (λ c. search needs)
+    (λ c. (simp length-set (c .before .before .before .before .before .loop .inv .0), search needs)) (λ c. search needs) (λ c. search needs))
