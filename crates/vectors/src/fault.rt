@@ -17,9 +17,7 @@ pub const LENGTH: u8 = 4;
 
 pub const DIGIT: u8 = 5;
 
-pub const NAME: u8 = 6;
-
-pub const ROUND: u8 = 7;
+pub const STATE: u8 = 6;
 
 // Says what is wrong with a line, where something is, and counts it.
 pub fn report(line: usize, fault: u8, counts: &mut [u64; CELLS]) {
@@ -42,8 +40,7 @@ no header above says how to read it
 a field is missing, or there are too many
 a field has the wrong length
 a field has a character that is no hex digit
-a state has an unknown name
-a round is out of range";
+no state of C.3 has this round and name";
     print(part(words, fault as usize, b'\n'));
 }
 
