@@ -28,7 +28,8 @@ pub fn state(line: &[u8], counts: &mut [u64; CELLS]) -> u8 {
     fault::NONE
 }
 
-// Where the state of a line stands, by what is before its 32 digits and a space. Where the list has -, the appendix prints none.
+// Where the state of a line stands, by what the line has before its 32 digits and a space. Where the list has -, the appendix
+// prints none.
 fn place(line: &[u8]) -> usize {
     if line.len() < 33 {
         return NOWHERE;

@@ -19,7 +19,7 @@ pub fn end_of(text: &[u8], from: usize, stop: u8) -> usize
     at
 }
 
-// Where the part after that one starts: past the stop, or at the end of the text. Less is left there, unless nothing was left.
+// Where the part after that one starts: past the stop, or at the end of the text. Less is left there, unless nothing was.
 pub fn past(text: &[u8], from: usize, stop: u8) -> usize
     requires { ⌜ from ≤ length (now text) ⌝ }
     ensures { λ r. ⌜ (r ≤ length (now (text .entry))) × (length (now (text .entry)) - r ≤ length (now (text .entry)) - (from + 1)) ⌝ }
@@ -81,7 +81,7 @@ pub fn read_field(line: &[u8], n: usize, last: usize, out: &mut [u8]) -> u8 {
     read_hex(field, out)
 }
 
-// A byte keeps its last four bits, as the first of its digits, where the next one comes in.
+// Each digit moves the one before it in its byte up by four bits.
 fn read_hex(field: &[u8], out: &mut [u8]) -> u8
     requires { ⌜ length (now field) ≤ length (now out) + length (now out) ⌝ }
 {

@@ -1,4 +1,4 @@
--- `vectors::text::read_hex` is safe and ends: stores keep the length of `out`, which has a byte for each two digits of the field.
+-- `vectors::text::read_hex` is safe and ends: stores keep the length of `out`, which has a byte for two digits each.
 -- Assumes nothing.
 use Prim.Native.Nat.{_≤_, _-_}
 use mathlib.Core.Path.{_≡_}
@@ -16,6 +16,8 @@ abbrev μ-loop : tie.MeasureT-loop
 pub read-hex-spec : {M : Type 1} → statement M
 read-hex-spec =
     tie.close
-    (tie.spec Inv-loop μ-loop (λ c. search needs) (λ c. search needs) (λ c κs. search needs) (λ c. search needs) (λ c. search needs)
-    (λ c. search needs) (λ c. search needs) (λ c. search needs) (λ c. search needs) (λ c. search needs) (λ c. search needs)
-    (λ c. (simp length-set (c .before .before .before .before .before .loop .inv .0), search needs)) (λ c. search needs) (λ c. search needs))
+    (tie.spec Inv-loop μ-loop (λ c. search needs) (λ c. search needs) (λ c κs. search needs) (λ c. search needs)
+    (λ c. search needs) (λ c. search needs) (λ c. search needs) (λ c. search needs) (λ c. search needs)
+    (λ c. search needs) (λ c. search needs)
+    (λ c. (simp length-set (c .before .before .before .before .before .loop .inv .0), search needs))
+    (λ c. search needs) (λ c. search needs))
