@@ -35,6 +35,7 @@ pub fn run(line: &[u8], source: usize, counts: &mut [u64; CELLS]) -> u8 {
     }
 }
 
+// Both ways; what is wrong with the line is the same for both.
 fn ecb(line: &[u8], counts: &mut [u64; CELLS]) -> u8 {
     blocks(line, Call::Encrypt, 1, counts::ECB_ENCRYPTED, counts);
     blocks(line, Call::Decrypt, 1, counts::ECB_DECRYPTED, counts)
