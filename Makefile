@@ -1,4 +1,4 @@
-# make test runs every check of the project, rt ci last; make run prints worked examples by a proved program.
+# make test runs every check of the project, rt ci last; make run shows the rack's job by a proved program.
 .PHONY: test run
 
 test:
@@ -6,6 +6,7 @@ test:
 	@tools/sources-test
 	@tools/sources
 	@rt fmt --check
+	@tools/vectors-test
 	@rt ci
 
 run:

@@ -1,5 +1,7 @@
-// Prints worked examples of the field under the cipher. What each should be is in the file stdout beside src/, taken from the
-// place named at the end of its line.
+// The rack's job on FIPS 197's own example, and worked examples of the field under it. What each line should be is in the file
+// stdout beside src/, taken from the standard or from the place named at the end of the line.
+mod rack;
+
 use aes::reply;
 use aes::reply::Valued;
 use aes::tables;
@@ -7,7 +9,8 @@ use aes::tables::entry;
 use libc::STDOUT_FILENO;
 
 fn main() {
-    print(b"Worked examples of the field under AES (FIPS 197): bytes in hex.\n\n");
+    rack::job();
+    print(b"\nThe field under the cipher\n\n");
     products();
     boxes();
     powers();
@@ -79,7 +82,7 @@ fn ending(ground: &[u8]) {
     print(b"\n");
 }
 
-fn print(text: &[u8]) {
+pub(crate) fn print(text: &[u8]) {
     io::write_all(STDOUT_FILENO, text);
 }
 
