@@ -1,7 +1,6 @@
 -- Rows and columns of four, and the matrices of MIXCOLUMNS and its inverse.
 -- Assumes nothing.
-use mathlib.Core.Path.{_≡_, refl, sym, ap, _∙_}
-use mathlib.Core.List.{List}
+use mathlib.Core.Path.{_≡_, refl}
 use Prim.Native.Nat.{ℕ, _<_}
 use lib.Dec.{lit<}
 use Rattle.aes.specs.Byte.{_⊕_}

@@ -1,9 +1,9 @@
 -- INVCIPHER undoes CIPHER, and CIPHER undoes INVCIPHER, for any schedule and any number of rounds.
 -- Assumes nothing.
-use mathlib.Core.Path.{_≡_, refl, sym, ap, _∙_}
+use mathlib.Core.Path.{_≡_, refl}
 use mathlib.Core.List.{List}
-use Prim.Native.Nat.{ℕ, zero, suc, _+_, _-_, _*_, _<_}
-use Rattle.aes.specs.State.{at, subBytes, invSubBytes, shiftRows, invShiftRows, mixColumns, invMixColumns, addRoundKey, Bytes}
+use Prim.Native.Nat.{ℕ, zero, suc, _+_, _-_, _*_}
+use Rattle.aes.specs.State.{at, subBytes, invSubBytes, shiftRows, invShiftRows, invMixColumns, addRoundKey, Bytes}
 use Rattle.aes.specs.Key.{roundKey}
 use Rattle.aes.specs.Cipher.{rounds, cipher, invRounds, invCipher}
 use Rattle.aes.proofs.Undo.{state-bytes, add-bytes, sub-bytes, inv-sub-bytes, shift-bytes, inv-shift-bytes, mix-bytes, inv-mix-bytes, add-twice, inv-sub-sub, sub-inv-sub, inv-shift-shift, shift-inv-shift, inv-mix-mix, mix-inv-mix}

@@ -1,12 +1,12 @@
 -- The schedule as a loop makes it, word by word.
 -- Assumes nothing.
-use mathlib.Core.Path.{_≡_, refl, sym, ap, ap₂, _∙_}
+use mathlib.Core.Path.{_≡_, refl, ap}
 use mathlib.Core.List.{List, [], _∷_, _++_}
 use Prim.Native.Nat.{ℕ, zero, suc, _+_, _-_, _*_, _≤_, _<_}
 use native.Mathlib.Omega.{arith}
 use lib.ListN.{length, length-append}
 use Rattle.aes.specs.State.{at}
-use Rattle.aes.specs.Key.{wordAt, sumWord, temp, nextWord, expanded, keyExpansion}
+use Rattle.aes.specs.Key.{wordAt, sumWord, temp, nextWord, expanded}
 use Rattle.aes.specs.Held.{Holds}
 use Rattle.aes.proofs.Part.{holds-read}
 

@@ -1,18 +1,15 @@
 -- The transformations over lent tables are those of FIPS 197, where the tables are.
 -- Assumes nothing.
-use mathlib.Core.Path.{_≡_, refl, sym, ap, _∙_}
+use mathlib.Core.Path.{_≡_, ap, _∙_}
 use mathlib.Core.List.{List, [], _∷_}
 use Prim.Native.Nat.{ℕ, _<_}
-use native.Mathlib.Omega.{arith}
-use native.Mathlib.Decide.{decLt}
 use mir.Syntax.{w8}
 use mir.Val.{Fits}
 use lib.Dec.{lit<}
-use lib.ListN.{length, List·getD-eq-default}
 use Rattle.aes.specs.Byte.{_⊕_, table}
-use Rattle.aes.specs.Field.{xTimes, times, _•_}
+use Rattle.aes.specs.Field.{xTimes}
 use Rattle.aes.specs.Box.{sBox, invSBox}
-use Rattle.aes.specs.State.{at, state, dot, turned, subBytes, invSubBytes, mixColumns, invMixColumns, Bytes}
+use Rattle.aes.specs.State.{at, dot, turned, subBytes, invSubBytes, mixColumns, invMixColumns, Bytes}
 use Rattle.aes.specs.Lent.{joined, columns, mixedColumn, spreadColumn, mixedBy, spreadBy, substituted}
 use Rattle.aes.proofs.Xor.{sums, xor-byte}
 use Rattle.aes.proofs.Listed.{table-at}

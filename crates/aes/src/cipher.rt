@@ -21,18 +21,21 @@ use crate::state::spread_columns;
 use crate::state::substitute;
 use crate::tables;
 
+// Writes what CIPHER makes of the block under the schedule.
 pub fn encrypt(schedule: &[u8], input: &[u8], output: &mut [u8]) -> u8
     ensures { λ r. ⌜ (r, now (output .exit)) ≡ encryptOf (now (schedule .entry)) (now (input .entry)) (now (output .entry)) ⌝ }
 {
     run(schedule, input, output, false)
 }
 
+// Writes what INVCIPHER makes of the block under the schedule.
 pub fn decrypt(schedule: &[u8], input: &[u8], output: &mut [u8]) -> u8
     ensures { λ r. ⌜ (r, now (output .exit)) ≡ decryptOf (now (schedule .entry)) (now (input .entry)) (now (output .entry)) ⌝ }
 {
     run(schedule, input, output, true)
 }
 
+// The checks, in their order, and the block in one direction or the other.
 fn run(schedule: &[u8], input: &[u8], output: &mut [u8], back: bool) -> u8
     ensures { λ r. ⌜ (r, now (output .exit)) ≡ blockOf back (now (schedule .entry)) (now (input .entry)) (now (output .entry)) ⌝ }
 {

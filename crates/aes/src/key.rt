@@ -13,6 +13,7 @@ use crate::state::copy;
 use crate::tables;
 use crate::tables::entry;
 
+// Writes the schedule of a key. It is made by value first, so that a refusal has written nothing.
 pub fn expand_key(key: &[u8], schedule: &mut [u8]) -> u8
     ensures { λ r. ⌜ (r, now (schedule .exit)) ≡ expandKeyOf (now (key .entry)) (now (schedule .entry)) ⌝ }
 {
@@ -46,6 +47,7 @@ fn expanded(key: &[u8]) -> [u8; 240]
     w
 }
 
+// The schedule's first eight words are the key.
 fn start(key: &[u8]) -> [u8; 240]
     requires { ⌜ length (now key) ≡ 32 ⌝ }
     ensures { λ r. ⌜ Holds 240 (now (key .entry)) r ⌝ }

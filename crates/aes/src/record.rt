@@ -1,6 +1,5 @@
 // The recorded plain run: the 71 states of an encryption, each written by the step that makes it to a part that is lent to it.
 ghost use mathlib.Core.Path.{_≡_};
-ghost use mathlib.Core.List.{[], _∷_};
 ghost use Prim.Native.Nat.{_<_};
 ghost use lib.ListN.{length};
 ghost use Rattle.aes.specs.Byte.{table};
@@ -20,6 +19,7 @@ use crate::state::shift_rows;
 use crate::state::substitute;
 use crate::tables;
 
+// Writes the 71 states of encrypting the block under the schedule.
 pub fn record_plain(schedule: &[u8], input: &[u8], states: &mut [u8]) -> u8
     ensures { λ r. ⌜ (r, now (states .exit)) ≡ recordPlainOf (now (schedule .entry)) (now (input .entry)) (now (states .entry)) ⌝ }
 {
@@ -47,6 +47,7 @@ fn recorded(input: [u8; 16], w: &[u8], states: &mut [u8])
     last(t, w, &sbox, &mut states[1056..1136]);
 }
 
+// The whole rounds, 80 bytes to each.
 fn thirteen(
     first: [u8; 16],
     w: &[u8],

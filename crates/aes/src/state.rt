@@ -7,6 +7,7 @@ ghost use Rattle.aes.specs.Key.{roundKey};
 ghost use Rattle.aes.specs.Lent.{substituted, joined, mixedColumn, spreadColumn, mixedBy, spreadBy};
 use crate::tables::entry;
 
+// The sum of two states, byte by byte: AddRoundKey, and the covering by a mask.
 pub fn add(a: [u8; 16], b: [u8; 16]) -> [u8; 16]
     ensures { λ r. ⌜ r ≡ addRoundKey a b ⌝ }
 {
@@ -32,6 +33,7 @@ pub(crate) fn substitute(s: [u8; 16], lent: &[u8; 256]) -> [u8; 16]
     r
 }
 
+// Row r moves left by r.
 pub fn shift_rows(s: [u8; 16]) -> [u8; 16]
     ensures { λ r. ⌜ r ≡ shiftRows s ⌝ }
 {
@@ -55,6 +57,7 @@ pub fn shift_rows(s: [u8; 16]) -> [u8; 16]
     ]
 }
 
+// Row r moves right by r.
 pub(crate) fn inv_shift_rows(s: [u8; 16]) -> [u8; 16]
     ensures { λ r. ⌜ r ≡ invShiftRows s ⌝ }
 {
@@ -78,6 +81,7 @@ pub(crate) fn inv_shift_rows(s: [u8; 16]) -> [u8; 16]
     ]
 }
 
+// Each column by the matrix of MixColumns, where the lent table doubles.
 pub fn mix_columns(s: [u8; 16], doubles: &[u8; 256]) -> [u8; 16]
     ensures { λ r. ⌜ r ≡ mixedBy (now (doubles .entry)) s ⌝ }
 {

@@ -3,7 +3,7 @@
 use mathlib.Core.List.{List}
 use Prim.Native.Nat.{ℕ}
 use borrow.Author.Needs.{needs}
-use Rattle.aes.specs.State.{at, Bytes}
+use Rattle.aes.specs.State.{at}
 use Rattle.aes.proofs.Steps.{byte, inv-mix-lent}
 use Rattle.aes.proofs.cipher.inv_round.Statement.{statement}
 use Rattle.aes.proofs.cipher.inv_round.Tie as tie

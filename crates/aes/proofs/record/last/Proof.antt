@@ -6,7 +6,7 @@ use Prim.Native.Nat.{ℕ}
 use native.Mathlib.Omega.{arith}
 use borrow.Author.Needs.{needs}
 use lib.ListN.{length}
-use Rattle.aes.specs.Record.{keyed, boxed, shifted, mixed, compensated, closed, uncovered, plain}
+use Rattle.aes.specs.Record.{keyed, boxed, shifted, closed, uncovered, plain}
 use Rattle.aes.proofs.Written.{Sized, written-none, written-step, written-all}
 use Rattle.aes.proofs.PlainRun.{plain-sized}
 use Rattle.aes.proofs.record.last.Statement.{statement}
