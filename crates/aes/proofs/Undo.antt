@@ -2,7 +2,7 @@
 -- Assumes nothing.
 use mathlib.Core.Path.{_≡_, refl, sym, _∙_}
 use mathlib.Core.List.{List}
-use Prim.Native.Nat.{ℕ, _+_, _-_, _*_, _/_, _%_, _<_}
+use Prim.Native.Nat.{ℕ, _+_, _*_, _/_, _%_, _<_}
 use native.Mathlib.Omega.{arith}
 use native.Mathlib.Decide.{decLt}
 use lib.Dec.{lit<}
@@ -10,7 +10,7 @@ use lib.ListN.{length, List·getD-eq-default}
 use Rattle.aes.specs.Byte.{_⊕_, table}
 use Rattle.aes.specs.Field.{xTimes, times, _•_}
 use Rattle.aes.specs.Box.{sBox, invSBox}
-use Rattle.aes.specs.State.{at, cell, state, square, dot, turned, subBytes, invSubBytes, shiftRows, invShiftRows, mixColumns, invMixColumns, addRoundKey, Bytes}
+use Rattle.aes.specs.State.{at, cell, ahead, behind, state, square, dot, turned, subBytes, invSubBytes, shiftRows, invShiftRows, mixColumns, invMixColumns, addRoundKey, Bytes}
 use Rattle.aes.proofs.Xor.{sums, xor-byte}
 use Rattle.aes.proofs.Listed.{table-at}
 use Rattle.aes.proofs.Fill.{filled-all}
@@ -53,11 +53,11 @@ square-bytes f h = state-bytes (λ i. f (i % 4) (i / 4)) (λ i. h (i % 4) (i / 4
 
 pub shift-bytes : {s : List ℕ} → Bytes 16 s → Bytes 16 (shiftRows s)
 unfolding shiftRows
-shift-bytes {s} p = square-bytes (λ r c. cell s r ((c + r) % 4)) (λ r c. p .byte (r + 4 * ((c + r) % 4)))
+shift-bytes {s} p = square-bytes (λ r c. cell s r (ahead r c)) (λ r c. p .byte (r + 4 * ahead r c))
 
 pub inv-shift-bytes : {s : List ℕ} → Bytes 16 s → Bytes 16 (invShiftRows s)
 unfolding invShiftRows
-inv-shift-bytes {s} p = square-bytes (λ r c. cell s r ((c + 4 - r) % 4)) (λ r c. p .byte (r + 4 * ((c + 4 - r) % 4)))
+inv-shift-bytes {s} p = square-bytes (λ r c. cell s r (behind r c)) (λ r c. p .byte (r + 4 * behind r c))
 
 pub turned-bytes : (k0 k1 k2 k3 : ℕ) → k0 < 256 → k1 < 256 → k2 < 256 → k3 < 256 → (s : List ℕ) → Bytes 16 (turned k0 k1 k2 k3 s)
 turned-bytes k0 k1 k2 k3 h0 h1 h2 h3 s =

@@ -31,12 +31,18 @@ subBytes s = state (λ i. sBox (at s i))
 unfoldable pub invSubBytes : List ℕ → List ℕ
 invSubBytes s = state (λ i. invSBox (at s i))
 
--- SHIFTROWS and INVSHIFTROWS: row r moves left, and right, by r
+-- SHIFTROWS and INVSHIFTROWS: row r moves left, and right, by r, so that column c is taken from here
+abbrev pub ahead : ℕ → ℕ → ℕ
+ahead r c = (c + r) % 4
+
+abbrev pub behind : ℕ → ℕ → ℕ
+behind r c = (c + 4 - r) % 4
+
 unfoldable pub shiftRows : List ℕ → List ℕ
-shiftRows s = square (λ r c. cell s r ((c + r) % 4))
+shiftRows s = square (λ r c. cell s r (ahead r c))
 
 unfoldable pub invShiftRows : List ℕ → List ℕ
-invShiftRows s = square (λ r c. cell s r ((c + 4 - r) % 4))
+invShiftRows s = square (λ r c. cell s r (behind r c))
 
 -- the product of a row of four and a column (4.3), and of the columns of s with the matrix whose first row is k0 k1 k2 k3 and
 -- whose next rows are that one turned
