@@ -21,11 +21,7 @@ returns-2 c =
 returns-3 : tie.Need-returns-3
 returns-3 c =
     let a = c .before .before .before .before .before .before .args in
-    simp (
-      eq-eqb (length (a .schedule .now)) 240 (search needs),
-      eq-eqb (length (a .input .now)) 16 (search needs),
-      ne-eqb (length (a .output .now)) 16 (search needs),
-    )
+    simp (eq-eqb (length (a .schedule .now)) 240 (search needs), eq-eqb (length (a .input .now)) 16 (search needs), ne-eqb (length (a .output .now)) 16 (search needs))
 
 returns-4 : tie.Need-returns-4
 returns-4 c =
