@@ -26,14 +26,13 @@ returns-3 c =
 returns-4 : tie.Need-returns-4
 returns-4 c =
     let put = c .before .before in
-    let way = put .before .before .before in
-    let block = way .before in
-    let a = block .before .before .before .before .before .before .before .args in
+    let block = put .before .before .before in
+    let a = block .before .before .before .before .before .before .before .before .args in
     simp (
       eq-eqb (length (a .schedule .now)) 240 (search needs),
       eq-eqb (length (a .input .now)) 16 (search needs),
       eq-eqb (length (a .output .now)) 16 (search needs),
-      way .if4 .taken,
+      block .before .if4 .taken,
     )
     (ap (λ (l : List ℕ). (0, l))
     (put .put .ensures ∙ put .before .before .decrypted .ensures ∙ ap (invCipher 14 (a .schedule .now)) (block .block .ensures)))
@@ -41,20 +40,19 @@ returns-4 c =
 returns-5 : tie.Need-returns-5
 returns-5 c =
     let put = c .before .before in
-    let way = put .before .before .before in
-    let block = way .before in
-    let a = block .before .before .before .before .before .before .before .args in
+    let block = put .before .before .before in
+    let a = block .before .before .before .before .before .before .before .before .args in
     simp (
       eq-eqb (length (a .schedule .now)) 240 (search needs),
       eq-eqb (length (a .input .now)) 16 (search needs),
       eq-eqb (length (a .output .now)) 16 (search needs),
-      way .if4 .left,
+      block .before .if4 .left,
     )
     (ap (λ (l : List ℕ). (0, l))
-    (put .put2 .ensures ∙ put .before .before .encrypted .ensures ∙ ap (cipher 14 (a .schedule .now)) (block .block .ensures)))
+    (put .put2 .ensures ∙ put .before .before .encrypted .ensures ∙ ap (cipher 14 (a .schedule .now)) (block .block2 .ensures)))
 
 pub run-spec : {M : Type 1} → statement M
 run-spec =
     tie.close
     (tie.spec returns returns-2 returns-3 (λ c κs. search needs) (λ c κs. search needs) (λ c κs. search needs) (λ c. search needs) returns-4
-    (λ c κs. search needs) (λ c κs. search needs) (λ c. search needs) returns-5)
+    (λ c κs. search needs) (λ c κs. search needs) (λ c κs. search needs) (λ c. search needs) returns-5)
