@@ -5,7 +5,7 @@ use crate::fault;
 use check::same;
 
 // Where the part that starts at from ends: at the next stop, or at the end of the text.
-pub fn end_of(text: &[u8], from: usize, stop: u8) -> usize
+pub(crate) fn end_of(text: &[u8], from: usize, stop: u8) -> usize
     requires { ⌜ from ≤ length (now text) ⌝ }
     ensures { λ r. ⌜ (from ≤ r) × (r ≤ length (now (text .entry))) ⌝ }
 {
@@ -20,7 +20,7 @@ pub fn end_of(text: &[u8], from: usize, stop: u8) -> usize
 }
 
 // Where the part after that one starts: past the stop, or at the end of the text. Less is left there, unless nothing was.
-pub fn past(text: &[u8], from: usize, stop: u8) -> usize
+pub(crate) fn past(text: &[u8], from: usize, stop: u8) -> usize
     requires { ⌜ from ≤ length (now text) ⌝ }
     ensures { λ r. ⌜ (r ≤ length (now (text .entry))) × (length (now (text .entry)) - r ≤ length (now (text .entry)) - (from + 1)) ⌝ }
 {
