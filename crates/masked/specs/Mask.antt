@@ -1,0 +1,46 @@
+-- The masks of document 002, and what is made of sixteen of them. A label is counted modulo 16.
+-- Assumes nothing.
+use mathlib.Core.List.{List, [], _∷_, _++_}
+use Prim.Native.Nat.{ℕ, zero, suc, _+_, _%_}
+use Rattle.aes.specs.Byte.{_⊕_, table}
+use Rattle.aes.specs.Box.{sBox}
+use Rattle.aes.specs.State.{at, state, shiftRows, mixColumns, addRoundKey}
+
+-- the published masks M0 to M15
+unfoldable pub published : List ℕ
+published =
+    0x00 ∷ 0x0f ∷ 0x36 ∷ 0x39 ∷ 0x53 ∷ 0x5c ∷ 0x65 ∷ 0x6a ∷ 0x95 ∷ 0x9a ∷ 0xa3 ∷ 0xac ∷ 0xc6 ∷ 0xc9 ∷ 0xf0 ∷ 0xff ∷ []
+
+-- the sum of two states, byte by byte
+infixl 66 _⊞_
+abbrev pub _⊞_ : List ℕ → List ℕ → List ℕ
+a ⊞ b = addRoundKey a b
+
+-- Mask(o) over the masks M: M(o), M(o+1) .. M(o+15) at the bytes 0 to 15
+unfoldable pub mask : List ℕ → ℕ → List ℕ
+mask M o = state (λ i. at M ((o + i) % 16))
+
+-- masked box j: S(x xor M(j)) xor M(j+1)
+unfoldable pub maskedBox : List ℕ → ℕ → ℕ → ℕ
+maskedBox M j x = sBox (x ⊕ at M (j % 16)) ⊕ at M ((j + 1) % 16)
+
+-- Compensation(o)
+unfoldable pub compensation : List ℕ → ℕ → List ℕ
+compensation M o = mask M o ⊞ mixColumns (shiftRows (mask M o))
+
+-- the last constant, by the mask that covers the finished block: form 0 uncovers it, form 1 leaves the mask there
+unfoldable pub ending : ℕ → List ℕ → List ℕ
+ending zero m = shiftRows m
+ending (suc form) m = m ⊞ shiftRows m
+
+-- f 0, f 1, .. f (n - 1), one after the other
+unfoldable pub inRow : (ℕ → List ℕ) → ℕ → List ℕ
+inRow f zero = []
+inRow f (suc n) = inRow f n ++ f n
+
+-- the sixteen masked boxes, and Compensation(0) to Compensation(15), as they are stored
+unfoldable pub maskedBoxes : List ℕ → List ℕ
+maskedBoxes M = inRow (λ j. table (maskedBox M j) 256) 16
+
+unfoldable pub allCompensations : List ℕ → List ℕ
+allCompensations M = inRow (compensation M) 16

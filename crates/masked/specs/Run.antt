@@ -1,0 +1,47 @@
+-- The masked run: what it does to the covered state at each recorded point, and which mask lies there.
+-- Assumes nothing.
+use mathlib.Core.List.{List, [], _∷_}
+use Prim.Native.Nat.{ℕ, suc, _+_}
+use Rattle.aes.specs.State.{at, state, shiftRows, mixColumns}
+use Rattle.aes.specs.Key.{roundKey}
+use Rattle.aes.specs.Record.{Point, block, keyed, boxed, shifted, mixed, compensated, closed, uncovered, points, run, last}
+use Rattle.masked.specs.Mask.{_⊞_, mask, maskedBox, compensation, ending}
+
+-- at offset o over the masks M and the schedule w, ending in a form
+unfoldable pub covered : ℕ → List ℕ → ℕ → List ℕ → Point → List ℕ → List ℕ
+covered form M o w block s = s ⊞ mask M o
+covered form M o w (keyed r) s = s ⊞ roundKey w r
+covered form M o w (boxed r) s = state (λ i. maskedBox M (o + i + r) (at s i))
+covered form M o w (shifted r) s = shiftRows s
+covered form M o w (mixed r) s = mixColumns s
+covered form M o w (compensated r) s = s ⊞ compensation M (o + 1 + r)
+covered form M o w (closed r) s = s ⊞ roundKey w (suc r)
+covered form M o w (uncovered r) s = s ⊞ ending form (mask M (o + suc r))
+
+-- the recorded states of a run of nr rounds, and the block that it ends with
+unfoldable pub maskedRecord : ℕ → ℕ → List ℕ → ℕ → List ℕ → List ℕ → List (List ℕ)
+maskedRecord nr form M o w input = run (covered form M o w) input (points nr)
+
+unfoldable pub maskedCipher : ℕ → ℕ → List ℕ → ℕ → List ℕ → List ℕ → List ℕ
+maskedCipher nr form M o w input = last input (maskedRecord nr form M o w input)
+
+-- no mask at all
+abbrev pub bare : List ℕ
+bare = state (λ i. 0)
+
+-- the mask that lies on the state at each point of a run in form 0
+unfoldable pub maskAt : List ℕ → ℕ → Point → List ℕ
+maskAt M o block = mask M o
+maskAt M o (keyed r) = mask M (o + r)
+maskAt M o (boxed r) = mask M (o + r + 1)
+maskAt M o (shifted r) = shiftRows (mask M (o + r + 1))
+maskAt M o (mixed r) = mixColumns (shiftRows (mask M (o + r + 1)))
+maskAt M o (compensated r) = mask M (o + r + 1)
+maskAt M o (closed r) = shiftRows (mask M (o + r + 1))
+maskAt M o (uncovered r) = bare
+
+-- two records, state by state
+unfoldable pub summed : List (List ℕ) → List (List ℕ) → List (List ℕ)
+summed [] v = []
+summed (s ∷ u) [] = []
+summed (s ∷ u) (t ∷ v) = s ⊞ t ∷ summed u v

@@ -1,0 +1,94 @@
+// Masked encryption of one block: with the published masks, from the stored boxes, and with any sixteen masks.
+ghost use mathlib.Core.List.{List};
+ghost use mathlib.Core.Path.{_≡_};
+ghost use Rattle.masked.specs.Calls.{encryptPublishedOf, encryptMaskedOf, refusalOf};
+use crate::blocks::keep;
+use crate::blocks::sixteen;
+use crate::boxes;
+use crate::masks;
+use crate::run::unrecorded;
+use aes::reply;
+
+pub fn encrypt_published(
+    schedule: &[u8],
+    input: &[u8],
+    output: &mut [u8],
+    offset: u8,
+    form: u8,
+) -> u8
+    ensures { λ r. ⌜ (r, now (output .exit)) ≡ encryptPublishedOf (now (schedule .entry)) (now (input .entry)) (now (output .entry)) offset form ⌝ }
+{
+    let masks = masks::published();
+    let refusal = refusal(schedule, input, output, &masks, offset, form);
+    if refusal != reply::DONE {
+        return refusal;
+    }
+    let boxes = boxes::stored();
+    let compensations = masks::stored_compensations();
+    let c = unrecorded(
+        sixteen(input, 0),
+        schedule,
+        masks,
+        &boxes,
+        &compensations,
+        offset,
+        form,
+    );
+    keep(c, output);
+    reply::DONE
+}
+
+pub fn encrypt_masked(
+    schedule: &[u8],
+    input: &[u8],
+    output: &mut [u8],
+    masks: &[u8],
+    offset: u8,
+    form: u8,
+) -> u8
+    ensures { λ r. ⌜ (r, now (output .exit)) ≡ encryptMaskedOf (now (schedule .entry)) (now (input .entry)) (now (output .entry)) (now (masks .entry)) offset form ⌝ }
+{
+    let refusal = refusal(schedule, input, output, masks, offset, form);
+    if refusal != reply::DONE {
+        return refusal;
+    }
+    let table = sixteen(masks, 0);
+    let boxes = boxes::made(table);
+    let compensations = masks::compensations(table);
+    let c = unrecorded(
+        sixteen(input, 0),
+        schedule,
+        table,
+        &boxes,
+        &compensations,
+        offset,
+        form,
+    );
+    keep(c, output);
+    reply::DONE
+}
+
+// The number of the first check that fails, in their order.
+fn refusal(schedule: &[u8], input: &[u8], output: &[u8], masks: &[u8], offset: u8, form: u8) -> u8
+    ensures { λ r. ⌜ r ≡ refusalOf (now (schedule .entry)) (now (input .entry)) (now (output .entry)) (now (masks .entry)) offset form ⌝ }
+{
+    if schedule.len() != 240 {
+        return reply::SCHEDULE_LENGTH;
+    }
+    if input.len() != 16 {
+        return reply::INPUT_LENGTH;
+    }
+    if output.len() != 16 {
+        return reply::OUTPUT_LENGTH;
+    }
+    if masks.len() != 16 {
+        return reply::MASKS_LENGTH;
+    }
+    if 15 < offset {
+        return reply::OFFSET_RANGE;
+    }
+    if 1 < form {
+        return reply::FORM_UNKNOWN;
+    }
+    reply::DONE
+}

@@ -1,0 +1,99 @@
+// The published masks of document 002, and the constants that are made of masks.
+ghost use mathlib.Core.Path.{_≡_};
+ghost use Prim.Native.Nat.{_<_};
+ghost use Rattle.aes.specs.Byte.{table};
+ghost use Rattle.aes.specs.Field.{xTimes};
+ghost use Rattle.masked.specs.Mask.{published, mask, compensation, allCompensations, ending};
+use crate::blocks::keep;
+use crate::label::Label;
+use crate::label::Position;
+use aes::add;
+use aes::mix_columns;
+use aes::shift_rows;
+use aes::tables;
+
+const MASKS: [u8; 16] = *b"\
+\x00\x0f\x36\x39\x53\x5c\x65\x6a\x95\x9a\xa3\xac\xc6\xc9\xf0\xff";
+
+// Compensation(0) to Compensation(15) for the published masks.
+const COMPENSATIONS: [u8; 256] = *b"\
+\xb8\xb6\x2d\x23\x89\x12\x1c\x87\xb8\xb6\x2d\x23\x89\x12\x1c\x87\
+\x12\x1c\x10\x8b\xb6\x2d\x85\x8b\x12\x1c\x10\x8b\xb6\x2d\x85\x8b\
+\x2d\x85\x89\xb4\x1c\x10\xb8\x21\x2d\x85\x89\xb4\x1c\x10\xb8\x21\
+\x10\x2d\x23\x1e\x85\x1c\x87\x1e\x10\x2d\x23\x1e\x85\x1c\x87\x1e\
+\x89\x12\x1c\x87\xb8\xb6\x2d\x23\x89\x12\x1c\x87\xb8\xb6\x2d\x23\
+\xb6\x2d\x85\x8b\x12\x1c\x10\x8b\xb6\x2d\x85\x8b\x12\x1c\x10\x8b\
+\x1c\x10\xb8\x21\x2d\x85\x89\xb4\x1c\x10\xb8\x21\x2d\x85\x89\xb4\
+\x85\x1c\x87\x1e\x10\x2d\x23\x1e\x85\x1c\x87\x1e\x10\x2d\x23\x1e\
+\xb8\xb6\x2d\x23\x89\x12\x1c\x87\xb8\xb6\x2d\x23\x89\x12\x1c\x87\
+\x12\x1c\x10\x8b\xb6\x2d\x85\x8b\x12\x1c\x10\x8b\xb6\x2d\x85\x8b\
+\x2d\x85\x89\xb4\x1c\x10\xb8\x21\x2d\x85\x89\xb4\x1c\x10\xb8\x21\
+\x10\x2d\x23\x1e\x85\x1c\x87\x1e\x10\x2d\x23\x1e\x85\x1c\x87\x1e\
+\x89\x12\x1c\x87\xb8\xb6\x2d\x23\x89\x12\x1c\x87\xb8\xb6\x2d\x23\
+\xb6\x2d\x85\x8b\x12\x1c\x10\x8b\xb6\x2d\x85\x8b\x12\x1c\x10\x8b\
+\x1c\x10\xb8\x21\x2d\x85\x89\xb4\x1c\x10\xb8\x21\x2d\x85\x89\xb4\
+\x85\x1c\x87\x1e\x10\x2d\x23\x1e\x85\x1c\x87\x1e\x10\x2d\x23\x1e";
+
+// M0 to M15.
+pub(crate) fn published() -> [u8; 16]
+    ensures { λ r. ⌜ r ≡ published ⌝ }
+{
+    MASKS
+}
+
+pub(crate) fn stored_compensations() -> [u8; 256]
+    ensures { λ r. ⌜ r ≡ allCompensations published ⌝ }
+{
+    COMPENSATIONS
+}
+
+// Mask(l).
+pub(crate) fn mask(masks: [u8; 16], l: Label) -> [u8; 16]
+    requires { ⌜ l .0 < 16 ⌝ }
+    ensures { λ r. ⌜ r ≡ mask masks (l .0) ⌝ }
+{
+    let mut r = [0u8; 16];
+    let mut i = 0;
+    while i < 16 {
+        r[i] = masks[l.over(Position::at(i)).read()];
+        i += 1;
+    }
+    r
+}
+
+// The last constant of a run, by the mask that covers its finished block.
+pub(crate) fn ending(form: u8, m: [u8; 16]) -> [u8; 16]
+    ensures { λ r. ⌜ r ≡ ending form m ⌝ }
+{
+    if form == 0 {
+        return shift_rows(m);
+    }
+    add(m, shift_rows(m))
+}
+
+// Compensation(0) to Compensation(15) for any masks.
+pub(crate) fn compensations(masks: [u8; 16]) -> [u8; 256]
+    ensures { λ r. ⌜ r ≡ allCompensations masks ⌝ }
+{
+    let doubles = tables::doubles();
+    let mut r = [0u8; 256];
+    let mut l = Label::FIRST;
+    let mut n = 0;
+    while n < 16 {
+        let a = 16 * n;
+        let e = a + 16;
+        keep(compensation(masks, l, &doubles), &mut r[a..e]);
+        let m = l.next();
+        l = m;
+        n += 1;
+    }
+    r
+}
+
+fn compensation(masks: [u8; 16], l: Label, doubles: &[u8; 256]) -> [u8; 16]
+    requires { ⌜ (l .0 < 16) × (now doubles ≡ table xTimes 256) ⌝ }
+    ensures { λ r. ⌜ r ≡ compensation masks (l .0) ⌝ }
+{
+    let m = mask(masks, l);
+    add(m, mix_columns(shift_rows(m), doubles))
+}
