@@ -1,0 +1,53 @@
+-- The masked boxes as antt works them out, and what a row of boxes and of constants has at each label.
+-- Assumes nothing.
+use mathlib.Core.Path.{_≡_, refl, sym, ap, fun-ext, _∙_}
+use mathlib.Core.List.{List}
+use Prim.Native.Nat.{ℕ, _+_, _*_, _%_, _<_}
+use native.Mathlib.Omega.{arith}
+use lib.Dec.{lit<}
+use lib.ListN.{length}
+use Rattle.aes.specs.Byte.{_⊕_, table}
+use Rattle.aes.specs.Box.{sBox}
+use Rattle.aes.specs.State.{at, state, addRoundKey, Bytes}
+use Rattle.aes.specs.Key.{roundKey}
+use Rattle.aes.proofs.Xor.{xor-byte}
+use Rattle.aes.proofs.Listed.{table-at, table-same, table-length}
+use Rattle.aes.proofs.Boxes.{boxes, boxes-are}
+use Rattle.aes.proofs.Undo.{add-size, state-at}
+use Rattle.masked.specs.Mask.{inRow, maskedBox, maskedBoxes, compensation, allCompensations}
+use Rattle.masked.proofs.Row.{row-at}
+
+-- box j, by looking S up in a list
+unfoldable pub lookedUp : List ℕ → List ℕ → ℕ → ℕ → ℕ
+lookedUp l M j x = at l (x ⊕ at M (j % 16)) ⊕ at M ((j + 1) % 16)
+
+looked-up : {M : List ℕ} → Bytes 16 M → (j x : ℕ) → x < 256 → maskedBox M j x ≡ lookedUp boxes M j x
+unfolding maskedBox lookedUp
+looked-up {M} h j x hx =
+    let y : ℕ = x ⊕ at M (j % 16) in
+    let e : at boxes y ≡ sBox y = rw (← boxes-are) (table-at sBox 256 y (xor-byte x (at M (j % 16)) hx (h .byte (j % 16)))) in
+    rw e
+
+pub boxes-worked-out : {M : List ℕ} → Bytes 16 M → maskedBoxes M ≡ (let l : List ℕ = boxes in inRow (λ j. table (lookedUp l M j) 256) 16)
+unfolding maskedBoxes
+boxes-worked-out {M} h =
+    ap (λ (f : ℕ → List ℕ). inRow f 16)
+    (fun-ext (λ j. table-same (maskedBox M j) (lookedUp boxes M j) 256 (looked-up h j)))
+
+-- the formula at each entry of the store
+pub box-at : (M : List ℕ) (j x : ℕ) → j < 16 → x < 256 → at (maskedBoxes M) (256 * j + x) ≡ maskedBox M j x
+unfolding maskedBoxes
+box-at M j x hj hx =
+    row-at (λ j. table (maskedBox M j) 256) 256 (λ j. table-length (maskedBox M j) 256) 16 j x hj hx ∙ table-at (maskedBox M j) 256 x hx
+
+pub compensation-size : (M : List ℕ) (o : ℕ) → length (compensation M o) ≡ 16
+unfolding compensation
+compensation-size M o = add-size _ _
+
+-- the constant at each label
+pub compensation-at : (M : List ℕ) (o : ℕ) → o < 16 → roundKey (allCompensations M) o ≡ compensation M o
+unfolding roundKey allCompensations table
+compensation-at M o ho =
+    table-same (λ i. at (inRow (compensation M) 16) (16 * o + i)) (at (compensation M o)) 16
+    (λ i. row-at (compensation M) 16 (compensation-size M) 16 o i ho)
+    ∙ state-at (compensation M o) (compensation-size M o)
