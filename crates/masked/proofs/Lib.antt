@@ -1,0 +1,4 @@
+pub mod Cover
+pub mod AnyMasks
+pub mod Relation
+pub mod Result
