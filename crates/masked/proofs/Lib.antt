@@ -2,3 +2,4 @@ pub mod Cover
 pub mod AnyMasks
 pub mod Relation
 pub mod Result
+pub mod Balancing
