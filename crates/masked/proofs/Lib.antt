@@ -3,3 +3,5 @@ pub mod AnyMasks
 pub mod Relation
 pub mod Result
 pub mod Balancing
+pub mod RecordBytes
+pub mod RecordBalance

@@ -54,7 +54,7 @@ module _ (M : List ℕ) (o : ℕ) where
   next : (r : ℕ) → o + r + 1 ≡ o + suc r
   next r = omega arith
 
-  maskAt-is : (p : Point) → maskAt M o p ≡ maskBy 0 (rotating M o) p
+  pub maskAt-is : (p : Point) → maskAt M o p ≡ maskBy 0 (rotating M o) p
   unfolding maskAt maskBy left
   maskAt-is block = rw add-zero
   maskAt-is (keyed r) = refl
