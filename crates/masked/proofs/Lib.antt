@@ -1,2 +1,9 @@
 pub mod Row
 pub mod Store
+pub mod Cover
+pub mod AnyMasks
+pub mod Relation
+pub mod Result
+pub mod Balancing
+pub mod RecordBytes
+pub mod RecordBalance
