@@ -7,3 +7,4 @@ pub mod Result
 pub mod Balancing
 pub mod RecordBytes
 pub mod RecordBalance
+pub mod Endings

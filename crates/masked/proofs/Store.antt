@@ -1,10 +1,12 @@
 -- The masked boxes as antt works them out, and what a row of boxes and of constants has at each label.
 -- Assumes nothing.
 use mathlib.Core.Path.{_≡_, refl, sym, ap, fun-ext, _∙_}
-use mathlib.Core.List.{List}
-use Prim.Native.Nat.{ℕ, _+_, _*_, _%_, _<_}
+use mathlib.Core.Bool.{Bool, true, _&&_}
+use mathlib.Core.List.{List, [], _∷_}
+use Prim.Native.Nat.{ℕ, zero, suc, _+_, _*_, _%_, _<_}
 use native.Mathlib.Omega.{arith}
-use lib.Dec.{lit<}
+use lib.Dec.{T, ltb, lit<}
+use mir.Facts.{and-yes}
 use lib.ListN.{length}
 use Rattle.aes.specs.Byte.{_⊕_, table}
 use Rattle.aes.specs.Box.{sBox}
@@ -14,7 +16,7 @@ use Rattle.aes.proofs.Xor.{xor-byte}
 use Rattle.aes.proofs.Listed.{table-at, table-same, table-length}
 use Rattle.aes.proofs.Boxes.{boxes, boxes-are}
 use Rattle.aes.proofs.Undo.{add-size, state-at}
-use Rattle.masked.specs.Mask.{inRow, maskedBox, maskedBoxes, compensation, allCompensations}
+use Rattle.masked.specs.Mask.{published, inRow, maskedBox, maskedBoxes, compensation, allCompensations}
 use Rattle.masked.proofs.Row.{row-at}
 
 -- box j, by looking S up in a list
@@ -28,11 +30,28 @@ looked-up {M} h j x hx =
     let e : at boxes y ≡ sBox y = rw (← boxes-are) (table-at sBox 256 y (xor-byte x (at M (j % 16)) hx (h .byte (j % 16)))) in
     rw e
 
-pub boxes-worked-out : {M : List ℕ} → Bytes 16 M → maskedBoxes M ≡ (let l : List ℕ = boxes in inRow (λ j. table (lookedUp l M j) 256) 16)
+boxes-worked-out : {M : List ℕ} → Bytes 16 M → maskedBoxes M ≡ (let l : List ℕ = boxes in inRow (λ j. table (lookedUp l M j) 256) 16)
 unfolding maskedBoxes
 boxes-worked-out {M} h =
     ap (λ (f : ℕ → List ℕ). inRow f 16)
     (fun-ext (λ j. table-same (maskedBox M j) (lookedUp boxes M j) 256 (looked-up h j)))
+
+fit : List ℕ → Bool
+fit [] = true
+fit (x ∷ l) = ltb x 256 && fit l
+
+fit-at : (l : List ℕ) → T (fit l) → (i : ℕ) → at l i < 256
+unfolding fit
+fit-at [] t i = lit< tt
+fit-at (x ∷ l) t zero = lit< (and-yes (ltb x 256) (fit l) t .0)
+fit-at (x ∷ l) t (suc i) = fit-at l (and-yes (ltb x 256) (fit l) t .1) i
+
+published-bytes : Bytes 16 published
+unfolding published fit
+published-bytes = record { size = refl; byte = fit-at published tt }
+
+pub published-worked-out : maskedBoxes published ≡ (let l : List ℕ = boxes in inRow (λ j. table (lookedUp l published j) 256) 16)
+published-worked-out = boxes-worked-out published-bytes
 
 -- the formula at each entry of the store
 pub box-at : (M : List ℕ) (j x : ℕ) → j < 16 → x < 256 → at (maskedBoxes M) (256 * j + x) ≡ maskedBox M j x

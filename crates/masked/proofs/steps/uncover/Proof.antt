@@ -1,0 +1,8 @@
+-- The sum, and that it is kept.
+-- Assumes nothing.
+use borrow.Author.Needs.{needs}
+use Rattle.masked.proofs.steps.uncover.Statement.{statement}
+use Rattle.masked.proofs.steps.uncover.Tie as tie
+
+pub uncover-spec : {M : Type 1} → statement M
+uncover-spec = tie.close (tie.spec (λ c κs. search needs) (λ c κs. search needs) (λ c. search needs) (λ c. (cc, c .before .before .keep .ensures .1)))
