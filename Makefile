@@ -5,6 +5,11 @@ test:
 	@tools/kit
 	@tools/sources-test
 	@tools/sources
+	@tools/labels-test
+	@tools/steps-test
+	@tools/steps
+	@tools/cites-test
+	@tools/cites
 	@rt fmt --check
 	@tools/vectors-test
 	@rt ci
