@@ -8,3 +8,5 @@ pub mod Balancing
 pub mod RecordBytes
 pub mod RecordBalance
 pub mod Endings
+pub mod LentSteps
+pub mod Given

@@ -1,19 +1,22 @@
 -- What each call of the masked engine answers for every input: its reply, and what the lent buffer holds then.
 -- Assumes nothing.
+use mathlib.Core.Bool.{cond}
 use mathlib.Core.List.{List, [], _∷_}
 use Prim.Native.Nat.{ℕ}
 use Rattle.aes.specs.Record.{bytes}
-use Rattle.aes.specs.Reply.{Check, answer, isSchedule, isInput, isOutput, isMaskTable, isOffset, isForm, isRecord}
+use Rattle.aes.specs.Reply.{Check, _else_, answer, isSchedule, isInput, isOutput, isMaskTable, isOffset, isForm, isRecord}
 use Rattle.masked.specs.Mask.{published}
 use Rattle.masked.specs.Run.{maskedRecord, maskedCipher}
 
--- what an encryption with any masks checks, and the number of the first check that fails
+-- the reply of checks alone
+abbrev pub refusal : List Check → ℕ
+refusal [] = 0
+refusal ((holds else reply) ∷ checks) = cond holds (refusal checks) reply
+
+-- what an encryption with any masks checks
 abbrev pub checks : List ℕ → List ℕ → List ℕ → List ℕ → ℕ → ℕ → List Check
 checks schedule input output masks offset form =
     isSchedule schedule ∷ isInput input ∷ isOutput output ∷ isMaskTable masks ∷ isOffset offset ∷ isForm form ∷ []
-
-abbrev pub refusalOf : List ℕ → List ℕ → List ℕ → List ℕ → ℕ → ℕ → ℕ
-refusalOf schedule input output masks offset form = answer {A = Unit} (checks schedule input output masks offset form) tt tt .0
 
 abbrev pub encryptPublishedOf : List ℕ → List ℕ → List ℕ → ℕ → ℕ → ℕ × List ℕ
 encryptPublishedOf schedule input output offset form =

@@ -1,7 +1,6 @@
 // Masked encryption of one block: with the published masks, from the stored boxes, and with any sixteen masks.
-ghost use mathlib.Core.List.{List};
 ghost use mathlib.Core.Path.{_≡_};
-ghost use Rattle.masked.specs.Calls.{encryptPublishedOf, encryptMaskedOf, refusalOf};
+ghost use Rattle.masked.specs.Calls.{encryptPublishedOf, encryptMaskedOf, checks, refusal};
 use crate::blocks::keep;
 use crate::blocks::sixteen;
 use crate::boxes;
@@ -70,7 +69,7 @@ pub fn encrypt_masked(
 
 // The number of the first check that fails, in their order.
 fn refusal(schedule: &[u8], input: &[u8], output: &[u8], masks: &[u8], offset: u8, form: u8) -> u8
-    ensures { λ r. ⌜ r ≡ refusalOf (now (schedule .entry)) (now (input .entry)) (now (output .entry)) (now (masks .entry)) offset form ⌝ }
+    ensures { λ r. ⌜ r ≡ refusal (checks (now (schedule .entry)) (now (input .entry)) (now (output .entry)) (now (masks .entry)) offset form) ⌝ }
 {
     if schedule.len() != 240 {
         return reply::SCHEDULE_LENGTH;

@@ -3,14 +3,14 @@
 ghost use mathlib.Core.Path.{_≡_};
 ghost use Prim.Native.Nat.{_+_, _%_, _<_};
 
-pub struct Position(usize);
+pub(crate) struct Position(usize);
 
-pub struct Round(usize);
+pub(crate) struct Round(usize);
 
-pub struct Label(usize);
+pub(crate) struct Label(usize);
 
 impl Position {
-    pub fn at(i: usize) -> Position
+    pub(crate) fn at(i: usize) -> Position
         ensures { λ p. ⌜ p .0 ≡ i ⌝ }
     {
         Position(i)
@@ -18,14 +18,22 @@ impl Position {
 }
 
 impl Round {
-    pub fn number(r: usize) -> Round
+    pub(crate) const FIRST: Round = Round(0);
+
+    // The one without MixColumns.
+    pub(crate) const LAST: Round = Round(13);
+
+    // How many there are: after the last, one key more is added and one mask more is left.
+    pub(crate) const END: Round = Round(14);
+
+    pub(crate) fn number(r: usize) -> Round
         ensures { λ k. ⌜ k .0 ≡ r ⌝ }
     {
         Round(r)
     }
 
     // Which sixteen bytes of a schedule are the round's key.
-    pub fn read(self) -> usize
+    pub(crate) fn read(self) -> usize
         ensures { λ r. ⌜ r ≡ self .0 ⌝ }
     {
         self.0
@@ -33,10 +41,10 @@ impl Round {
 }
 
 impl Label {
-    pub const FIRST: Label = Label(0);
+    pub(crate) const FIRST: Label = Label(0);
 
     // The label of byte 0 in a round: offset and round together.
-    pub fn make(offset: u8, r: Round) -> Label
+    pub(crate) fn make(offset: u8, r: Round) -> Label
         requires { ⌜ r .0 < 15 ⌝ }
         ensures { λ l. ⌜ l .0 ≡ (offset + r .0) % 16 ⌝ }
     {
@@ -44,7 +52,7 @@ impl Label {
     }
 
     // The label that follows.
-    pub fn next(self) -> Label
+    pub(crate) fn next(self) -> Label
         requires { ⌜ self .0 < 16 ⌝ }
         ensures { λ l. ⌜ l .0 ≡ (self .0 + 1) % 16 ⌝ }
     {
@@ -52,7 +60,7 @@ impl Label {
     }
 
     // The label of the byte at a position, where byte 0 has this one.
-    pub fn over(self, p: Position) -> Label
+    pub(crate) fn over(self, p: Position) -> Label
         requires { ⌜ (self .0 < 16) × (p .0 < 16) ⌝ }
         ensures { λ l. ⌜ l .0 ≡ (self .0 + p .0) % 16 ⌝ }
     {
@@ -60,7 +68,7 @@ impl Label {
     }
 
     // Which of sixteen masks, boxes or constants has this label.
-    pub fn read(self) -> usize
+    pub(crate) fn read(self) -> usize
         ensures { λ n. ⌜ n ≡ self .0 ⌝ }
     {
         self.0

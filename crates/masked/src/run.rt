@@ -34,8 +34,8 @@ pub(crate) fn recorded(
     ensures { λ _. ⌜ now (states .exit) ≡ bytes (maskedRecord 14 0 masks offset (now (w .entry)) input) ⌝ }
 {
     let doubles = tables::doubles();
-    let first = mask(masks, Label::make(offset, Round::number(0)));
-    let end = ending(0, mask(masks, Label::make(offset, Round::number(14))));
+    let first = mask(masks, Label::make(offset, Round::FIRST));
+    let end = ending(0, mask(masks, Label::make(offset, Round::END)));
     let s = cover(input, first, &mut states[0..16]);
     let t = thirteen(
         s,
@@ -63,8 +63,8 @@ pub(crate) fn unrecorded(
     ensures { λ r. ⌜ r ≡ maskedCipher 14 form masks offset (now (w .entry)) input ⌝ }
 {
     let doubles = tables::doubles();
-    let first = mask(masks, Label::make(offset, Round::number(0)));
-    let end = ending(form, mask(masks, Label::make(offset, Round::number(14))));
+    let first = mask(masks, Label::make(offset, Round::FIRST));
+    let end = ending(form, mask(masks, Label::make(offset, Round::END)));
     let mut scratch = [0u8; 80];
     let mut s = cover(input, first, &mut scratch[0..16]);
     let mut r = 0;
@@ -151,10 +151,14 @@ fn last(
     requires { ⌜ (length (now w) ≡ 240) × (length (now states) ≡ 80) ⌝ }
     ensures { λ t. ⌜ RecordedLast (now (w .entry)) (now (lent .entry)) offset end s (final 13) t (now (states .exit)) ⌝ }
 {
-    let r = Round::number(13);
-    let t = add_key(s, w, r, &mut states[0..16]);
-    let u = boxes(t, lent, Label::make(offset, r), &mut states[16..32]);
+    let t = add_key(s, w, Round::LAST, &mut states[0..16]);
+    let u = boxes(
+        t,
+        lent,
+        Label::make(offset, Round::LAST),
+        &mut states[16..32],
+    );
     let v = shift_rows(u, &mut states[32..48]);
-    let x = add_key(v, w, Round::number(14), &mut states[48..64]);
+    let x = add_key(v, w, Round::END, &mut states[48..64]);
     uncover(x, end, &mut states[64..80])
 }

@@ -1,0 +1,149 @@
+-- The steps over stored boxes and constants are those of the masked run, and how a run of them goes on.
+-- Assumes nothing.
+use mathlib.Core.Path.{_≡_, refl, sym, ap, _∙_}
+use mathlib.Core.Bool.{Bool, true, _&&_}
+use mathlib.Core.List.{List, [], _∷_, _++_}
+use Prim.Native.Nat.{ℕ, zero, suc, _+_, _*_, _%_, _<_}
+use native.Mathlib.Nat.{add-zero}
+use native.Mathlib.Omega.{arith}
+use lib.Dec.{T, eqb, eqb→eq}
+use lib.ListN.{length}
+use mir.Facts.{and-yes}
+use Rattle.aes.specs.Byte.{_⊕_, table}
+use Rattle.aes.specs.Field.{xTimes}
+use Rattle.aes.specs.Box.{sBox}
+use Rattle.aes.specs.State.{at, state, shiftRows, mixColumns, addRoundKey, Bytes}
+use Rattle.aes.specs.Key.{roundKey}
+use Rattle.aes.specs.Lent.{joined, mixedBy}
+use Rattle.aes.specs.Record.{Point, block, keyed, boxed, shifted, mixed, compensated, closed, uncovered, whole, wholes, points, run, last}
+use Rattle.aes.proofs.Xor.{xor-byte}
+use Rattle.aes.proofs.Listed.{table-same}
+use Rattle.aes.proofs.Boxes.{sBox-byte}
+use Rattle.aes.proofs.Steps.{mix-lent}
+use Rattle.aes.proofs.Undo.{state-bytes, add-bytes, shift-bytes, mix-bytes}
+use Rattle.aes.proofs.Written.{Sized, run-append, last-append}
+use Rattle.masked.specs.Mask.{_⊞_, mask, maskedBox, maskedBoxes, compensation, allCompensations, ending}
+use Rattle.masked.specs.Run.{covered, maskedRecord}
+use Rattle.masked.specs.Lent.{boxedBy, steps}
+use Rattle.masked.proofs.Store.{box-at, compensation-at}
+
+pub steps-sized : (w b c d : List ℕ) (o : ℕ) (first end : List ℕ) → Sized (steps w b c d o first end)
+unfolding steps addRoundKey boxedBy shiftRows mixedBy joined
+steps-sized w b c d o first end block s l = refl
+steps-sized w b c d o first end (keyed r) s l = refl
+steps-sized w b c d o first end (boxed r) s l = refl
+steps-sized w b c d o first end (shifted r) s l = refl
+steps-sized w b c d o first end (mixed r) s l = refl
+steps-sized w b c d o first end (compensated r) s l = refl
+steps-sized w b c d o first end (closed r) s l = refl
+steps-sized w b c d o first end (uncovered r) s l = refl
+
+-- where a run goes on from
+pub reached-more : (f : Point → List ℕ → List ℕ) (ps qs : List Point) (s t u : List ℕ)
+    → t ≡ last s (run f s ps) → u ≡ last t (run f t qs) → u ≡ last s (run f s (ps ++ qs))
+reached-more f ps qs s t u p q =
+    q ∙ ap (λ (v : List ℕ). last v (run f v qs)) p
+    ∙ sym (ap (last s) (run-append f ps qs s) ∙ last-append s (run f s ps) (run f (last s (run f s ps)) qs))
+
+-- labels are counted modulo 16
+mask-turn : (M : List ℕ) (o : ℕ) → mask M (o % 16) ≡ mask M o
+unfolding mask table
+mask-turn M o = table-same (λ i. at M ((o % 16 + i) % 16)) (λ i. at M ((o + i) % 16)) 16 (λ i h. ap (at M) (turned i))
+  where
+    turned : (i : ℕ) → (o % 16 + i) % 16 ≡ (o + i) % 16
+    turned i = omega arith
+
+box-turn : (M : List ℕ) (j k x : ℕ) → j % 16 ≡ k % 16 → maskedBox M j x ≡ maskedBox M k x
+unfolding maskedBox
+box-turn M j k x e =
+    let next : (j + 1) % 16 ≡ (k + 1) % 16 = omega arith in
+    rw (e, next)
+
+compensation-turn : (M : List ℕ) (o : ℕ) → compensation M (o % 16) ≡ compensation M o
+unfolding compensation
+compensation-turn M o = rw (mask-turn M o)
+
+module _ {M w : List ℕ} (hM : Bytes 16 M) (hw : Bytes 240 w) (form o : ℕ) where
+  mask-bytes : (j : ℕ) → Bytes 16 (mask M j)
+  unfolding mask
+  mask-bytes j = state-bytes (λ i. at M ((j + i) % 16)) (λ i. hM .byte ((j + i) % 16))
+
+  key-bytes : (r : ℕ) → Bytes 16 (roundKey w r)
+  unfolding roundKey
+  key-bytes r = state-bytes (λ i. at w (16 * r + i)) (λ i. hw .byte (16 * r + i))
+
+  box-byte : (j x : ℕ) → x < 256 → maskedBox M j x < 256
+  unfolding maskedBox
+  box-byte j x h =
+      xor-byte (sBox (x ⊕ at M (j % 16))) (at M ((j + 1) % 16)) (sBox-byte (x ⊕ at M (j % 16)) (xor-byte x (at M (j % 16)) h (hM .byte (j % 16)))) (hM .byte ((j + 1) % 16))
+
+  compensation-bytes : (j : ℕ) → Bytes 16 (compensation M j)
+  unfolding compensation
+  compensation-bytes j = add-bytes (mask-bytes j) (mix-bytes (shiftRows (mask M j)))
+
+  ending-bytes : (f : ℕ) (j : ℕ) → Bytes 16 (ending f (mask M j))
+  unfolding ending
+  ending-bytes zero j = shift-bytes (mask-bytes j)
+  ending-bytes (suc f) j = add-bytes (mask-bytes j) (shift-bytes (mask-bytes j))
+
+  covered-bytes : (p : Point) {s : List ℕ} → Bytes 16 s → Bytes 16 (covered form M o w p s)
+  unfolding covered
+  covered-bytes block h = add-bytes h (mask-bytes o)
+  covered-bytes (keyed r) h = add-bytes h (key-bytes r)
+  covered-bytes (boxed r) {s} h = state-bytes (λ i. maskedBox M (o + i + r) (at s i)) (λ i. box-byte (o + i + r) (at s i) (h .byte i))
+  covered-bytes (shifted r) h = shift-bytes h
+  covered-bytes (mixed r) {s} h = mix-bytes s
+  covered-bytes (compensated r) h = add-bytes h (compensation-bytes (o + 1 + r))
+  covered-bytes (closed r) h = add-bytes h (key-bytes (suc r))
+  covered-bytes (uncovered r) h = add-bytes h (ending-bytes form (o + suc r))
+
+  -- the steps as a run of fourteen rounds has them
+  abbrev lent : Point → List ℕ → List ℕ
+  lent = steps w (maskedBoxes M) (allCompensations M) (table xTimes 256) o (mask M ((o + 0) % 16)) (ending form (mask M ((o + 14) % 16)))
+
+  -- such a run is uncovered after round 13 alone
+  due : Point → Bool
+  due block = true
+  due (keyed r) = true
+  due (boxed r) = true
+  due (shifted r) = true
+  due (mixed r) = true
+  due (compensated r) = true
+  due (closed r) = true
+  due (uncovered r) = eqb r 13
+
+  lent-is : (p : Point) → T (due p) → (s : List ℕ) → Bytes 16 s → lent p s ≡ covered form M o w p s
+  unfolding due steps covered boxedBy table
+  lent-is block t s h = ap (λ (m : List ℕ). s ⊞ m) (mask-turn M (o + 0) ∙ rw add-zero)
+  lent-is (keyed r) t s h = refl
+  lent-is (boxed r) t s h =
+      table-same (λ i. at (maskedBoxes M) (256 * (((o + r) % 16 + i) % 16) + at s i)) (λ i. maskedBox M (o + i + r) (at s i)) 16
+      (λ i l. box-at M (((o + r) % 16 + i) % 16) (at s i) (omega arith) (h .byte i) ∙ box-turn M (((o + r) % 16 + i) % 16) (o + i + r) (at s i) (omega arith))
+  lent-is (shifted r) t s h = refl
+  lent-is (mixed r) t s h = mix-lent s h
+  lent-is (compensated r) t s h =
+      let e : o + suc r ≡ o + 1 + r = omega arith in
+      ap (λ (k : List ℕ). s ⊞ k) (compensation-at M ((o + suc r) % 16) (omega arith) ∙ compensation-turn M (o + suc r) ∙ ap (compensation M) e)
+  lent-is (closed r) t s h = refl
+  lent-is (uncovered r) t s h =
+      let e : o + 14 ≡ o + suc r = ap (λ (k : ℕ). o + suc k) (sym (eqb→eq r 13 t)) in
+      ap (λ (m : List ℕ). s ⊞ ending form m) (mask-turn M (o + 14) ∙ ap (mask M) e)
+
+  all-due : List Point → Bool
+  all-due [] = true
+  all-due (p ∷ ps) = due p && all-due ps
+
+  run-is : (ps : List Point) → T (all-due ps) → (s : List ℕ) → Bytes 16 s → run lent s ps ≡ run (covered form M o w) s ps
+  unfolding all-due run
+  run-is [] t s h = refl
+  run-is (p ∷ ps) t s h =
+      let d = and-yes (due p) (all-due ps) t in
+      rw (lent-is p (d .0) s h) (ap (λ (u : List (List ℕ)). covered form M o w p s ∷ u) (run-is ps (d .1) (covered form M o w p s) (covered-bytes p h)))
+
+  -- what a run of the steps records, where it is lent the right tables
+  pub lent-record : {input : List ℕ} → Bytes 16 input → (b c d first end : List ℕ) → b ≡ maskedBoxes M → c ≡ allCompensations M
+      → d ≡ table xTimes 256 → first ≡ mask M ((o + 0) % 16) → end ≡ ending form (mask M ((o + 14) % 16))
+      → run (steps w b c d o first end) input (points 14) ≡ maskedRecord 14 form M o w input
+  unfolding maskedRecord points wholes all-due due
+  lent-record {input} h b c d first end eb ec ed ef ee =
+      (λ i. run (steps w (eb i) (ec i) (ed i) o (ef i) (ee i)) input (points 14)) ∙ run-is (points 14) tt input h
