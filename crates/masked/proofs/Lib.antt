@@ -10,3 +10,4 @@ pub mod RecordBalance
 pub mod Endings
 pub mod LentSteps
 pub mod Given
+pub mod Checked

@@ -1,5 +1,8 @@
 // Masked encryption of one block: with the published masks, from the stored boxes, and with any sixteen masks.
 ghost use mathlib.Core.Path.{_≡_};
+ghost use lib.ListN.{length};
+ghost use Rattle.masked.specs.Mask.{published};
+ghost use Rattle.masked.specs.Run.{maskedCipher};
 ghost use Rattle.masked.specs.Calls.{encryptPublishedOf, encryptMaskedOf, checks, refusal};
 use crate::blocks::keep;
 use crate::blocks::sixteen;
@@ -22,18 +25,7 @@ pub fn encrypt_published(
     if refusal != reply::DONE {
         return refusal;
     }
-    let boxes = boxes::stored();
-    let compensations = masks::stored_compensations();
-    let c = unrecorded(
-        sixteen(input, 0),
-        schedule,
-        masks,
-        &boxes,
-        &compensations,
-        offset,
-        form,
-    );
-    keep(c, output);
+    by_stored_boxes(schedule, input, output, offset, form);
     reply::DONE
 }
 
@@ -51,6 +43,40 @@ pub fn encrypt_masked(
     if refusal != reply::DONE {
         return refusal;
     }
+    by_made_boxes(schedule, input, output, masks, offset, form);
+    reply::DONE
+}
+
+fn by_stored_boxes(schedule: &[u8], input: &[u8], output: &mut [u8], offset: u8, form: u8)
+    requires { ⌜ (length (now schedule) ≡ 240) × (length (now input) ≡ 16) × (length (now output) ≡ 16) ⌝ }
+    ensures { λ _. ⌜ now (output .exit) ≡ maskedCipher 14 form published offset (now (schedule .entry)) (now (input .entry)) ⌝ }
+{
+    let masks = masks::published();
+    let boxes = boxes::stored();
+    let compensations = masks::stored_compensations();
+    let c = unrecorded(
+        sixteen(input, 0),
+        schedule,
+        masks,
+        &boxes,
+        &compensations,
+        offset,
+        form,
+    );
+    keep(c, output);
+}
+
+fn by_made_boxes(
+    schedule: &[u8],
+    input: &[u8],
+    output: &mut [u8],
+    masks: &[u8],
+    offset: u8,
+    form: u8,
+)
+    requires { ⌜ (length (now schedule) ≡ 240) × (length (now input) ≡ 16) × (length (now output) ≡ 16) × (length (now masks) ≡ 16) ⌝ }
+    ensures { λ _. ⌜ now (output .exit) ≡ maskedCipher 14 form (now (masks .entry)) offset (now (schedule .entry)) (now (input .entry)) ⌝ }
+{
     let table = sixteen(masks, 0);
     let boxes = boxes::made(table);
     let compensations = masks::compensations(table);
@@ -64,7 +90,6 @@ pub fn encrypt_masked(
         form,
     );
     keep(c, output);
-    reply::DONE
 }
 
 // The number of the first check that fails, in their order.
