@@ -71,7 +71,7 @@ abbrev pub UniqueWriting :
 UniqueWriting {K} {Args} {Result} {Exit} Post buffer =
     (κs : K) (args : Args κs) (e f : Exit κs) (x y : Result κs) → Post κs args x e → Post κs args y f → (x ≡ y) × (buffer κs e ≡ buffer κs f)
 
-both : (x y : ℕ) (a b : List ℕ) (z : ℕ × List ℕ) → _≡_ {A = ℕ × List ℕ} (x, a) z → _≡_ {A = ℕ × List ℕ} (y, b) z → (x ≡ y) × (a ≡ b)
+pub both : (x y : ℕ) (a b : List ℕ) (z : ℕ × List ℕ) → _≡_ {A = ℕ × List ℕ} (x, a) z → _≡_ {A = ℕ × List ℕ} (y, b) z → (x ≡ y) × (a ≡ b)
 both x y a b z p q =
     let e : _≡_ {A = ℕ × List ℕ} (x, a) (y, b) = p ∙ sym q in
     (λ i. e i .0, λ i. e i .1)

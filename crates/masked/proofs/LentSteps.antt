@@ -22,7 +22,7 @@ use Rattle.aes.proofs.Boxes.{sBox-byte}
 use Rattle.aes.proofs.Steps.{mix-lent}
 use Rattle.aes.proofs.Undo.{state-bytes, add-bytes, shift-bytes, mix-bytes}
 use Rattle.aes.proofs.Written.{Sized, run-append, last-append}
-use Rattle.masked.specs.Mask.{_⊞_, mask, maskedBox, maskedBoxes, compensation, allCompensations, ending}
+use Rattle.masked.specs.Mask.{_⊞_, maskByte, mask, maskedBox, maskedBoxes, compensation, allCompensations, ending}
 use Rattle.masked.specs.Run.{covered, maskedRecord}
 use Rattle.masked.specs.Lent.{boxedBy, steps}
 use Rattle.masked.proofs.Store.{box-at, compensation-at}
@@ -48,10 +48,7 @@ reached-more f ps qs s t u p q =
 -- labels are counted modulo 16
 mask-turn : (M : List ℕ) (o : ℕ) → mask M (o % 16) ≡ mask M o
 unfolding mask table
-mask-turn M o = table-same (λ i. at M ((o % 16 + i) % 16)) (λ i. at M ((o + i) % 16)) 16 (λ i h. ap (at M) (turned i))
-  where
-    turned : (i : ℕ) → (o % 16 + i) % 16 ≡ (o + i) % 16
-    turned i = omega arith
+mask-turn M o = table-same (maskByte M (o % 16)) (maskByte M o) 16 (λ i h. ap (at M) (omega arith))
 
 box-turn : (M : List ℕ) (j k x : ℕ) → j % 16 ≡ k % 16 → maskedBox M j x ≡ maskedBox M k x
 unfolding maskedBox
@@ -66,7 +63,7 @@ compensation-turn M o = rw (mask-turn M o)
 module _ {M w : List ℕ} (hM : Bytes 16 M) (hw : Bytes 240 w) (form o : ℕ) where
   mask-bytes : (j : ℕ) → Bytes 16 (mask M j)
   unfolding mask
-  mask-bytes j = state-bytes (λ i. at M ((j + i) % 16)) (λ i. hM .byte ((j + i) % 16))
+  mask-bytes j = state-bytes (maskByte M j) (λ i. hM .byte _)
 
   key-bytes : (r : ℕ) → Bytes 16 (roundKey w r)
   unfolding roundKey

@@ -11,3 +11,4 @@ pub mod Endings
 pub mod LentSteps
 pub mod Given
 pub mod Checked
+pub mod Unique

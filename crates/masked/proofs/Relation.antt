@@ -12,7 +12,7 @@ use Rattle.aes.specs.State.{at, state, subBytes, addRoundKey}
 use Rattle.aes.specs.Record.{Point, block, keyed, boxed, shifted, mixed, compensated, closed, uncovered, points, run, plain, plainRecord, cipherAt}
 use Rattle.aes.proofs.Listed.{table-at, table-same}
 use Rattle.aes.proofs.PlainRun.{record-is}
-use Rattle.masked.specs.Mask.{_⊞_, mask, maskedBox, compensation}
+use Rattle.masked.specs.Mask.{_⊞_, maskByte, mask, maskedBox, compensation}
 use Rattle.masked.specs.Run.{covered, maskedRecord, maskAt, summed}
 use Rattle.masked.proofs.Cover.{at-summed, map-at}
 use Rattle.masked.proofs.AnyMasks.{coveredBy, left, maskBy, relation-any}
@@ -21,9 +21,9 @@ use Rattle.masked.proofs.AnyMasks.{coveredBy, left, maskBy, relation-an
 abbrev pub rotating : List ℕ → ℕ → ℕ → List ℕ
 rotating M o r = mask M (o + r)
 
-pub mask-entry : (M : List ℕ) (o k : ℕ) → k < 16 → at (mask M o) k ≡ at M ((o + k) % 16)
+pub mask-entry : (M : List ℕ) (o k : ℕ) → k < 16 → at (mask M o) k ≡ maskByte M o k
 unfolding mask table
-mask-entry M o = table-at (λ i. at M ((o + i) % 16)) 16
+mask-entry M o = table-at (maskByte M o) 16
 
 -- box o + k + r takes byte k from the mask of round r to that of the next
 label-at : (M : List ℕ) (o r x k : ℕ) → k < 16 → maskedBox M (o + k + r) x ≡ sBox (x ⊕ at (rotating M o r) k) ⊕ at (rotating M o (suc r)) k

@@ -17,8 +17,11 @@ abbrev pub _⊞_ : List ℕ → List ℕ → List ℕ
 a ⊞ b = addRoundKey a b
 
 -- Mask(o) over the masks M: M(o), M(o+1) .. M(o+15) at the bytes 0 to 15
+abbrev pub maskByte : List ℕ → ℕ → ℕ → ℕ
+maskByte M o i = at M ((o + i) % 16)
+
 unfoldable pub mask : List ℕ → ℕ → List ℕ
-mask M o = state (λ i. at M ((o + i) % 16))
+mask M o = state (maskByte M o)
 
 -- masked box j: S(x xor M(j)) xor M(j+1)
 unfoldable pub maskedBox : List ℕ → ℕ → ℕ → ℕ

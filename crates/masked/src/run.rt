@@ -133,11 +133,12 @@ fn round(
     ensures { λ t. ⌜ RecordedRounds (now (w .entry)) (now (lent .entry)) (now (compensations .entry)) (now (doubles .entry)) offset s (whole (r .0)) t (now (states .exit)) ⌝ }
 {
     let l = Label::make(offset, r);
+    let m = l.next();
     let t = add_key(s, w, r, &mut states[0..16]);
     let u = boxes(t, lent, l, &mut states[16..32]);
     let v = shift_rows(u, &mut states[32..48]);
     let x = mix_columns(v, doubles, &mut states[48..64]);
-    compensate(x, compensations, l.next(), &mut states[64..80])
+    compensate(x, compensations, m, &mut states[64..80])
 }
 
 fn last(

@@ -4,13 +4,13 @@ use mathlib.Core.Path.{refl, _∙_}
 use Prim.Native.Nat.{_+_, _-_, _%_}
 use borrow.Author.Needs.{needs}
 use Rattle.aes.specs.State.{at}
-use Rattle.masked.specs.Mask.{mask}
+use Rattle.masked.specs.Mask.{maskByte, mask}
 use Rattle.aes.proofs.Fill.{Filled, filled-none, filled-more, filled-all}
 use Rattle.masked.proofs.masks.mask.Statement.{statement}
 use Rattle.masked.proofs.masks.mask.Tie as tie
 
 abbrev Inv-loop : tie.InvT-loop
-Inv-loop l masks r₀ i₀ r i = Filled (λ k. at masks ((l .0 + k) % 16)) 16 i r
+Inv-loop l masks r₀ i₀ r i = Filled (maskByte masks (l .0)) 16 i r
 
 abbrev μ-loop : tie.MeasureT-loop
 μ-loop l masks r₀ i₀ r i = 16 - i

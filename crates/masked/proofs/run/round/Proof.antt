@@ -20,16 +20,17 @@ unfolding steps
 returns c =
     λ first end.
     let k5 = c .before .before in
-    let k4 = k5 .before .before .before .before .before in
+    let k4 = k5 .before .before .before .before in
     let k3 = k4 .before .before .before .before in
     let k2 = k3 .before .before .before .before in
     let k1 = k2 .before .before .before .before in
-    let make = k1 .before .before in
+    let next = k1 .before .before in
+    let make = next .before in
     let start = make .before .before .before in
     let a = start .args in
     let r : ℕ = a .r .0 in
     let o : ℕ = a .offset in
-    let next : k5 .before .before .next .result .0 ≡ (o + suc r) % 16 = k5 .before .before .next .ensures ∙ omega (arith, make .make .ensures) in
+    let label : next .next .result .0 ≡ (o + suc r) % 16 = next .next .ensures ∙ omega (arith, make .make .ensures) in
     let size : Sized (steps (a .w .now) (a .lent .now) (a .compensations .now) (a .doubles .now) o first end) = steps-sized (a .w .now) (a .lent .now) (a .compensations .now) (a .doubles .now) o first end in
     let l : length (a .s) ≡ 16 = start .good .0 .1 .0 .1 in
     let h0 = written-none (steps (a .w .now) (a .lent .now) (a .compensations .now) (a .doubles .now) o first end) (a .s) 80 (a .states .now) (search needs) in
@@ -39,12 +40,12 @@ returns c =
     let h3 = written-step size l h2 (shifted r) 32 48 refl refl (omega arith) (omega arith) (k3 .shift-rows .ensures .0) (k3 .shift-rows .ensures .1) in
     let h4 = written-step size l h3 (mixed r) 48 64 refl refl (omega arith) (omega arith) (k4 .mix-columns .ensures .0) (k4 .mix-columns .ensures .1) in
     let h5 = written-step size l h4 (compensated r) 64 80 refl refl (omega arith) (omega arith)
-    (k5 .compensate .ensures .0 ∙ ap (λ (j : ℕ). k4 .mix-columns .result ⊞ roundKey (a .compensations .now) j) next) (k5 .compensate .ensures .1) in
+    (k5 .compensate .ensures .0 ∙ ap (λ (j : ℕ). k4 .mix-columns .result ⊞ roundKey (a .compensations .now) j) label) (k5 .compensate .ensures .1) in
     written-all size l h5 refl
 
 pub round-spec : {M : Type 1} → statement M
 round-spec =
     tie.close
-    (tie.spec (λ c κs. search needs) (λ c. search needs) (λ c. search needs) (λ c. search needs) (λ c κs. search needs) (λ c. search needs) (λ c. search needs) (λ c. search needs) (λ c κs. search needs)
-    (λ c. search needs) (λ c. search needs) (λ c. search needs) (λ c κs. search needs) (λ c. search needs) (λ c. search needs) (λ c. search needs) (λ c κs. search needs) (λ c κs. search needs)
+    (tie.spec (λ c κs. search needs) (λ c κs. search needs) (λ c. search needs) (λ c. search needs) (λ c. search needs) (λ c κs. search needs) (λ c. search needs) (λ c. search needs) (λ c. search needs) (λ c κs. search needs)
+    (λ c. search needs) (λ c. search needs) (λ c. search needs) (λ c κs. search needs) (λ c. search needs) (λ c. search needs) (λ c. search needs) (λ c κs. search needs)
     (λ c. search needs) (λ c. search needs) (λ c. search needs) (λ c κs. search needs) (λ c. search needs) returns)

@@ -1,0 +1,15 @@
+-- Uniqueness: whatever the arguments, a call's promise allows one reply and one content of the lent buffer.
+-- Assumes nothing.
+use Rattle.aes.proofs.Unique.{UniqueWriting, both}
+use Rattle.masked.proofs.encrypt.encrypt_masked.Reads as encrypt-masked
+use Rattle.masked.proofs.encrypt.encrypt_published.Reads as encrypt-published
+use Rattle.masked.proofs.record.record_masked.Reads as record-masked
+
+pub encrypt-published-unique : UniqueWriting encrypt-published.Post (λ κs e. e .1 .1 .0 .now)
+encrypt-published-unique κs args e f x y p q = both x y _ _ _ p q
+
+pub encrypt-masked-unique : UniqueWriting encrypt-masked.Post (λ κs e. e .1 .1 .0 .now)
+encrypt-masked-unique κs args e f x y p q = both x y _ _ _ p q
+
+pub record-masked-unique : UniqueWriting record-masked.Post (λ κs e. e .1 .1 .1 .1 .0 .now)
+record-masked-unique κs args e f x y p q = both x y _ _ _ p q
