@@ -99,9 +99,9 @@ fn thirteen(
     ensures { λ t. ⌜ RecordedRounds (now (w .entry)) (now (boxes .entry)) (now (compensations .entry)) (now (doubles .entry)) offset first (wholes 13) t (now (states .exit)) ⌝ }
 {
     let mut s = first;
-    let mut r = 0;
-    while r < 13 {
-        let a = 80 * r;
+    let mut n = 0;
+    while n < 13 {
+        let a = 80 * n;
         let e = a + 80;
         let t = round(
             s,
@@ -110,11 +110,11 @@ fn thirteen(
             compensations,
             doubles,
             offset,
-            Round::number(r),
+            Round::number(n),
             &mut states[a..e],
         );
         s = t;
-        r += 1;
+        n += 1;
     }
     s
 }

@@ -1,4 +1,4 @@
--- After r turns the states of r rounds stand in the buffer.
+-- After n turns the states of n rounds stand in the buffer.
 -- Assumes nothing.
 use mathlib.Core.List.{List, []}
 use mathlib.Core.Path.{_≡_, ap, _∙_}
@@ -14,12 +14,12 @@ use Rattle.masked.proofs.run.thirteen.Statement.{statement}
 use Rattle.masked.proofs.run.thirteen.Tie as tie
 
 abbrev Inv-loop : tie.InvT-loop
-Inv-loop w boxes compensations doubles offset states₀ s₀ r₀ states s r =
-    (r ≤ 13) × (length s₀ ≡ 16) × (length states ≡ 1040)
-    × ((first end : List ℕ) → Written (steps w boxes compensations doubles offset first end) s₀ 1040 (wholes r) s states)
+Inv-loop w boxes compensations doubles offset states₀ s₀ n₀ states s n =
+    (n ≤ 13) × (length s₀ ≡ 16) × (length states ≡ 1040)
+    × ((first end : List ℕ) → Written (steps w boxes compensations doubles offset first end) s₀ 1040 (wholes n) s states)
 
 abbrev μ-loop : tie.MeasureT-loop
-μ-loop w boxes compensations doubles offset states₀ s₀ r₀ states s r = 13 - r
+μ-loop w boxes compensations doubles offset states₀ s₀ n₀ states s n = 13 - n
 
 begin : tie.Need-loop-holds Inv-loop μ-loop
 unfolding wholes
@@ -34,21 +34,21 @@ again c =
     let at-loop = number .before .before in
     let l = at-loop .loop in
     let a = at-loop .before .before .before .args in
-    let r : ℕ = l .r in
+    let n : ℕ = l .n in
     let size = steps-sized (a .w .now) (a .boxes .now) (a .compensations .now) (a .doubles .now) (a .offset) in (
       search needs,
       l .inv .1,
       search needs,
       λ first end.
           rw wholes-more
-          (written-more (size first end) (l .inv .1) (l .inv .3 first end) (whole r) (80 * r) (80 * r + 80) (rw (wholes-length r) (omega arith)) (omega arith) (omega arith) (omega arith)
+          (written-more (size first end) (l .inv .1) (l .inv .3 first end) (whole n) (80 * n) (80 * n + 80) (rw (wholes-length n) (omega arith)) (omega arith) (omega arith) (omega arith)
           (rw (number .number .ensures) at (round .round .ensures first end))),
     )
 
 returns : tie.Need-returns Inv-loop μ-loop
 returns c =
     let l = c .before .loop in
-    let e : l .r ≡ 13 = omega arith in
+    let e : l .n ≡ 13 = omega arith in
     λ first end. written-all (steps-sized _ _ _ _ _ first end) (l .inv .1) (rw e at (l .inv .3 first end)) (rw (wholes-length 13))
 
 pub thirteen-spec : {M : Type 1} → statement M
