@@ -3,8 +3,8 @@
 use mathlib.Core.List.{List}
 use mathlib.Core.Path.{_≡_, refl, ap, _∙_}
 use Prim.Native.Nat.{ℕ}
-use native.Mathlib.Omega.{arith}
 use borrow.Author.Needs.{needs}
+use lib.Dec.{lit≤}
 use lib.ListN.{length, length-append}
 use Rattle.aes.specs.State.{at, Bytes}
 use Rattle.aes.specs.Record.{block, final, wholes, points, bytes}
@@ -40,9 +40,9 @@ returns c =
     let w : Bytes 240 (a .w .now) = record { size = start .pre .0; byte = λ i. byte (at (a .w .now) i) (doubles .before .before .shared-slice-known .given i) } in
     let five : length (wholes 13) ≡ 65 = wholes-length 13 in
     let h0 = written-none f (a .input) 1136 (a .states .now) (start .pre .3) in
-    let h1 = written-step size (b .size) h0 block 0 16 refl refl (omega arith) (omega arith) (k1 .cover .ensures .0) (k1 .cover .ensures .1) in
-    let h2 = written-more size (b .size) h1 (wholes 13) 16 1056 refl (rw five) (omega arith) (omega arith) (k2 .thirteen .ensures first end) in
-    let h3 = written-more size (b .size) h2 (final 13) 1056 1136 (rw five) refl (omega arith) (omega arith) (k3 .last .ensures (a .compensations .now) (doubles .doubles .result) first) in
+    let h1 = written-step size (b .size) h0 block 0 16 refl refl (lit≤ tt) (lit≤ tt) (k1 .cover .ensures .0) (k1 .cover .ensures .1) in
+    let h2 = written-more size (b .size) h1 (wholes 13) 16 1056 refl (rw five) (lit≤ tt) (lit≤ tt) (k2 .thirteen .ensures first end) in
+    let h3 = written-more size (b .size) h2 (final 13) 1056 1136 (rw five) refl (lit≤ tt) (lit≤ tt) (k3 .last .ensures (a .compensations .now) (doubles .doubles .result) first) in
     written-all size (b .size) h3 (simp (length-append, five)) .held
     ∙ ap bytes
     (lent-record m w 0 o b (a .boxes .now) (a .compensations .now) (doubles .doubles .result) first end (start .pre .1) (start .pre .2) (doubles .doubles .ensures)
