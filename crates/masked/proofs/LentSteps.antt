@@ -46,9 +46,6 @@ reached-more f ps qs s t u p q =
     ∙ sym (ap (last s) (run-append f ps qs s) ∙ last-append s (run f s ps) (run f (last s (run f s ps)) qs))
 
 -- labels are counted modulo 16
-pub label-next : (o r j : ℕ) → j ≡ (o + r) % 16 → (j + 1) % 16 ≡ (o + suc r) % 16
-label-next o r j e = omega arith
-
 mask-turn : (M : List ℕ) (o : ℕ) → mask M (o % 16) ≡ mask M o
 unfolding mask table
 mask-turn M o = table-same (maskByte M (o % 16)) (maskByte M o) 16 (λ i h. ap (at M) (omega arith))
