@@ -29,9 +29,9 @@ mask-entry M o = table-at (maskByte M o) 16
 label-at : (M : List ℕ) (o r x k : ℕ) → k < 16 → maskedBox M (o + k + r) x ≡ sBox (x ⊕ at (rotating M o r) k) ⊕ at (rotating M o (suc r)) k
 unfolding maskedBox
 label-at M o r x k h =
-    let e : (o + r + k) % 16 ≡ (o + k + r) % 16 = omega arith in
-    let e′ : (o + suc r + k) % 16 ≡ (o + k + r + 1) % 16 = omega arith in
-    rw (mask-entry M (o + r) k h, mask-entry M (o + suc r) k h, e, e′)
+    let taken : at M ((o + k + r) % 16) ≡ maskByte M (o + r) k = ap (at M) (omega arith) in
+    let given : at M ((o + k + r + 1) % 16) ≡ maskByte M (o + suc r) k = ap (at M) (omega arith) in
+    rw (mask-entry M (o + r) k h, mask-entry M (o + suc r) k h, taken, given)
 
 module _ (M : List ℕ) (o : ℕ) where
   boxes-are : (r : ℕ) (s : List ℕ) → state (λ i. maskedBox M (o + i + r) (at s i)) ≡ subBytes (s ⊞ rotating M o r) ⊞ rotating M o (suc r)
