@@ -8,6 +8,8 @@ use crate::counts::CELLS;
 use crate::counts::count;
 use crate::fault;
 use crate::fault::either;
+use crate::masked_calls;
+use crate::masks::Masks;
 use crate::text::place_of;
 use crate::text::read_field;
 
@@ -29,31 +31,63 @@ pub fn run(line: &[u8], source: usize, counts: &mut [u64; CELLS]) -> u8 {
         0 => ecb(line, counts),
         1 => key_expansion(line, counts),
         2 => c3::state(line, counts),
-        3 => blocks(line, Call::Encrypt, 1000, counts::CHAINS_ENCRYPTED, counts),
-        4 => blocks(line, Call::Decrypt, 1000, counts::CHAINS_DECRYPTED, counts),
+        3 => encrypted_chain(line, counts),
+        4 => decrypted_chain(line, counts),
         _ => fault::SOURCE,
     }
 }
 
-// Both ways; what is wrong with the line is the same for both.
+// Both ways, and by the masked engine.
 fn ecb(line: &[u8], counts: &mut [u64; CELLS]) -> u8 {
-    blocks(line, Call::Encrypt, 1, counts::ECB_ENCRYPTED, counts);
-    blocks(line, Call::Decrypt, 1, counts::ECB_DECRYPTED, counts)
-}
-
-// A key, a plain block and a cipher block.
-fn blocks(line: &[u8], call: Call, times: usize, row: usize, counts: &mut [u64; CELLS]) -> u8 {
     let mut key = [0u8; 32];
     let mut plain = [0u8; 16];
     let mut cipher = [0u8; 16];
-    let first = read_field(line, 0, 2, &mut key);
-    let second = read_field(line, 1, 2, &mut plain);
-    let third = read_field(line, 2, 2, &mut cipher);
-    let fault = either(first, either(second, third));
+    let fault = read_blocks(line, &mut key, &mut plain, &mut cipher);
     if fault == fault::NONE {
-        count(counts, row, leads(call, times, &key, &plain, &cipher));
+        let encrypted = leads(Call::Encrypt, 1, &key, &plain, &cipher);
+        count(counts, counts::ECB_ENCRYPTED, encrypted);
+        let decrypted = leads(Call::Decrypt, 1, &key, &plain, &cipher);
+        count(counts, counts::ECB_DECRYPTED, decrypted);
+        masked_calls::at_all_offsets(&key, &plain, &cipher, counts);
     }
     fault
+}
+
+// By either engine.
+fn encrypted_chain(line: &[u8], counts: &mut [u64; CELLS]) -> u8 {
+    let mut key = [0u8; 32];
+    let mut plain = [0u8; 16];
+    let mut cipher = [0u8; 16];
+    let fault = read_blocks(line, &mut key, &mut plain, &mut cipher);
+    if fault == fault::NONE {
+        let encrypted = leads(Call::Encrypt, 1000, &key, &plain, &cipher);
+        count(counts, counts::CHAINS_ENCRYPTED, encrypted);
+        let published = masked_calls::leads(Masks::Published, &key, &plain, &cipher);
+        count(counts, counts::PUBLISHED_CHAINS, published);
+        let other = masked_calls::leads(Masks::Other, &key, &plain, &cipher);
+        count(counts, counts::OTHER_CHAINS, other);
+    }
+    fault
+}
+
+fn decrypted_chain(line: &[u8], counts: &mut [u64; CELLS]) -> u8 {
+    let mut key = [0u8; 32];
+    let mut plain = [0u8; 16];
+    let mut cipher = [0u8; 16];
+    let fault = read_blocks(line, &mut key, &mut plain, &mut cipher);
+    if fault == fault::NONE {
+        let decrypted = leads(Call::Decrypt, 1000, &key, &plain, &cipher);
+        count(counts, counts::CHAINS_DECRYPTED, decrypted);
+    }
+    fault
+}
+
+// A line is a key, a plain block and a cipher block.
+fn read_blocks(line: &[u8], key: &mut [u8; 32], plain: &mut [u8; 16], cipher: &mut [u8; 16]) -> u8 {
+    let first = read_field(line, 0, 2, key);
+    let second = read_field(line, 1, 2, plain);
+    let third = read_field(line, 2, 2, cipher);
+    either(first, either(second, third))
 }
 
 // A key and its schedule.
