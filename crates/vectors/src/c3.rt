@@ -3,6 +3,7 @@ use crate::counts;
 use crate::counts::CELLS;
 use crate::counts::count;
 use crate::fault;
+use crate::masked_c3;
 use crate::text::place_of;
 use crate::text::read_field;
 use aes::reply::DONE;
@@ -25,6 +26,9 @@ pub fn state(line: &[u8], counts: &mut [u64; CELLS]) -> u8 {
         return fault::STATE;
     }
     count(counts, counts::STATES, stands(place, &state));
+    if place < SCHEDULED {
+        masked_c3::state(place, &state, counts);
+    }
     fault::NONE
 }
 
@@ -58,11 +62,8 @@ fn place(line: &[u8]) -> usize {
 
 // Whether the library has the state in its place.
 fn stands(place: usize, state: &[u8; 16]) -> bool {
-    let key = b"\
-\x00\x01\x02\x03\x04\x05\x06\x07\x08\x09\x0a\x0b\x0c\x0d\x0e\x0f\
-\x10\x11\x12\x13\x14\x15\x16\x17\x18\x19\x1a\x1b\x1c\x1d\x1e\x1f";
     let mut schedule = [0u8; 240];
-    if aes::expand_key(key, &mut schedule) != DONE {
+    if aes::expand_key(&key(), &mut schedule) != DONE {
         return false;
     }
     if SCHEDULED <= place {
@@ -72,15 +73,25 @@ fn stands(place: usize, state: &[u8; 16]) -> bool {
 }
 
 fn recorded(schedule: &[u8; 240], place: usize, state: &[u8; 16]) -> bool {
-    let block = b"\x00\x11\x22\x33\x44\x55\x66\x77\x88\x99\xaa\xbb\xcc\xdd\xee\xff";
     let mut record = [0u8; 1136];
-    if aes::record_plain(schedule, block, &mut record) != DONE {
+    if aes::record_plain(schedule, &block(), &mut record) != DONE {
         return false;
     }
     state_is(&record, place, state)
 }
 
-fn state_is(states: &[u8], n: usize, state: &[u8]) -> bool {
+// The key and the block of the appendix.
+pub fn key() -> [u8; 32] {
+    *b"\
+\x00\x01\x02\x03\x04\x05\x06\x07\x08\x09\x0a\x0b\x0c\x0d\x0e\x0f\
+\x10\x11\x12\x13\x14\x15\x16\x17\x18\x19\x1a\x1b\x1c\x1d\x1e\x1f"
+}
+
+pub fn block() -> [u8; 16] {
+    *b"\x00\x11\x22\x33\x44\x55\x66\x77\x88\x99\xaa\xbb\xcc\xdd\xee\xff"
+}
+
+pub fn state_is(states: &[u8], n: usize, state: &[u8]) -> bool {
     if n < 71 {
         let from = 16 * n;
         let to = from + 16;

@@ -1,4 +1,4 @@
-// The calls of the library, held to what a vector says. A reply other than 0 is a difference.
+// The calls of the plain engine, held to what a vector says. A reply other than 0 is a difference.
 use aes::reply::DONE;
 use check::same;
 
@@ -47,7 +47,7 @@ fn answer(call: Call, schedule: &[u8; 240], input: &[u8; 16], output: &mut [u8; 
     }
 }
 
-fn same_block(a: &[u8; 16], b: &[u8; 16]) -> bool {
+pub fn same_block(a: &[u8; 16], b: &[u8; 16]) -> bool {
     same(a, b)
 }
 

@@ -8,11 +8,20 @@ use crate::counts::CELLS;
 use crate::counts::count;
 use crate::fault;
 use crate::fault::either;
+use crate::masked_calls;
+use crate::masks::Masks;
 use crate::text::place_of;
 use crate::text::read_field;
 
 // A source is the place of its header among all headers; this number stands for none of them.
 pub const UNKNOWN: usize = 5;
+
+// What is run of a key and two blocks.
+enum Kind {
+    Ecb,
+    EncryptedChain,
+    DecryptedChain,
+}
 
 pub fn source_of(header: &[u8]) -> usize {
     let headers = b"\
@@ -26,23 +35,17 @@ pub fn source_of(header: &[u8]) -> usize {
 
 pub fn run(line: &[u8], source: usize, counts: &mut [u64; CELLS]) -> u8 {
     match source {
-        0 => ecb(line, counts),
+        0 => blocks(line, Kind::Ecb, counts),
         1 => key_expansion(line, counts),
         2 => c3::state(line, counts),
-        3 => blocks(line, Call::Encrypt, 1000, counts::CHAINS_ENCRYPTED, counts),
-        4 => blocks(line, Call::Decrypt, 1000, counts::CHAINS_DECRYPTED, counts),
+        3 => blocks(line, Kind::EncryptedChain, counts),
+        4 => blocks(line, Kind::DecryptedChain, counts),
         _ => fault::SOURCE,
     }
 }
 
-// Both ways; what is wrong with the line is the same for both.
-fn ecb(line: &[u8], counts: &mut [u64; CELLS]) -> u8 {
-    blocks(line, Call::Encrypt, 1, counts::ECB_ENCRYPTED, counts);
-    blocks(line, Call::Decrypt, 1, counts::ECB_DECRYPTED, counts)
-}
-
 // A key, a plain block and a cipher block.
-fn blocks(line: &[u8], call: Call, times: usize, row: usize, counts: &mut [u64; CELLS]) -> u8 {
+fn blocks(line: &[u8], kind: Kind, counts: &mut [u64; CELLS]) -> u8 {
     let mut key = [0u8; 32];
     let mut plain = [0u8; 16];
     let mut cipher = [0u8; 16];
@@ -51,9 +54,37 @@ fn blocks(line: &[u8], call: Call, times: usize, row: usize, counts: &mut [u64; 
     let third = read_field(line, 2, 2, &mut cipher);
     let fault = either(first, either(second, third));
     if fault == fault::NONE {
-        count(counts, row, leads(call, times, &key, &plain, &cipher));
+        match kind {
+            Kind::Ecb => ecb(&key, &plain, &cipher, counts),
+            Kind::EncryptedChain => encrypted_chain(&key, &plain, &cipher, counts),
+            Kind::DecryptedChain => decrypted_chain(&key, &plain, &cipher, counts),
+        }
     }
     fault
+}
+
+// Both ways, and by the masked engine.
+fn ecb(key: &[u8; 32], plain: &[u8; 16], cipher: &[u8; 16], counts: &mut [u64; CELLS]) {
+    let encrypted = leads(Call::Encrypt, 1, key, plain, cipher);
+    count(counts, counts::ECB_ENCRYPTED, encrypted);
+    let decrypted = leads(Call::Decrypt, 1, key, plain, cipher);
+    count(counts, counts::ECB_DECRYPTED, decrypted);
+    masked_calls::at_all_offsets(key, plain, cipher, counts);
+}
+
+// By either engine.
+fn encrypted_chain(key: &[u8; 32], plain: &[u8; 16], cipher: &[u8; 16], counts: &mut [u64; CELLS]) {
+    let encrypted = leads(Call::Encrypt, 1000, key, plain, cipher);
+    count(counts, counts::CHAINS_ENCRYPTED, encrypted);
+    let published = masked_calls::leads(Masks::Published, key, plain, cipher);
+    count(counts, counts::PUBLISHED_CHAINS, published);
+    let other = masked_calls::leads(Masks::Other, key, plain, cipher);
+    count(counts, counts::OTHER_CHAINS, other);
+}
+
+fn decrypted_chain(key: &[u8; 32], plain: &[u8; 16], cipher: &[u8; 16], counts: &mut [u64; CELLS]) {
+    let decrypted = leads(Call::Decrypt, 1000, key, plain, cipher);
+    count(counts, counts::CHAINS_DECRYPTED, decrypted);
 }
 
 // A key and its schedule.
