@@ -1,7 +1,7 @@
 -- The transformations over a table that is lent to them: what it has takes the place of S, or of doubling.
 -- Assumes nothing.
 use mathlib.Core.List.{List, [], _∷_}
-use Prim.Native.Nat.{ℕ}
+use Prim.Native.Nat.{ℕ, _+_, _*_, _/_, _%_}
 use Rattle.aes.specs.Byte.{_⊕_}
 use Rattle.aes.specs.State.{at, state}
 
@@ -14,11 +14,12 @@ unfoldable pub joined : List ℕ → List ℕ → List ℕ → List ℕ → List
 joined p q t u =
     at p 0 ∷ at p 1 ∷ at p 2 ∷ at p 3 ∷ at q 0 ∷ at q 1 ∷ at q 2 ∷ at q 3 ∷ at t 0 ∷ at t 1 ∷ at t 2 ∷ at t 3 ∷ at u 0 ∷ at u 1 ∷ at u 2 ∷ at u 3 ∷ []
 
--- the columns of s, each by f
+-- column c of s by f, and all of its columns
+abbrev pub column : (ℕ → ℕ → ℕ → ℕ → List ℕ) → List ℕ → ℕ → List ℕ
+column f s c = f (at s (4 * c)) (at s (4 * c + 1)) (at s (4 * c + 2)) (at s (4 * c + 3))
+
 abbrev pub columns : (ℕ → ℕ → ℕ → ℕ → List ℕ) → List ℕ → List ℕ
-columns f s =
-    joined (f (at s 0) (at s 1) (at s 2) (at s 3)) (f (at s 4) (at s 5) (at s 6) (at s 7))
-    (f (at s 8) (at s 9) (at s 10) (at s 11)) (f (at s 12) (at s 13) (at s 14) (at s 15))
+columns f s = state (λ i. at (column f s (i / 4)) (i % 4))
 
 -- MIXCOLUMNS of a column, where d doubles
 unfoldable pub mixedColumn : List ℕ → ℕ → ℕ → ℕ → ℕ → List ℕ

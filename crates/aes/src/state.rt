@@ -85,11 +85,18 @@ pub(crate) fn inv_shift_rows(s: [u8; 16]) -> [u8; 16]
 pub fn mix_columns(s: [u8; 16], doubles: &[u8; 256]) -> [u8; 16]
     ensures { λ r. ⌜ r ≡ mixedBy (now (doubles .entry)) s ⌝ }
 {
-    let p = mix_column(s[0], s[1], s[2], s[3], doubles);
-    let q = mix_column(s[4], s[5], s[6], s[7], doubles);
-    let t = mix_column(s[8], s[9], s[10], s[11], doubles);
-    let u = mix_column(s[12], s[13], s[14], s[15], doubles);
-    joined(p, q, t, u)
+    let mut r = [0u8; 16];
+    let mut c = 0;
+    while c < 4 {
+        let i = 4 * c;
+        let p = mix_column(s[i], s[i + 1], s[i + 2], s[i + 3], doubles);
+        r[i] = p[0];
+        r[i + 1] = p[1];
+        r[i + 2] = p[2];
+        r[i + 3] = p[3];
+        c += 1;
+    }
+    r
 }
 
 // What MixColumns makes InvMixColumns of.

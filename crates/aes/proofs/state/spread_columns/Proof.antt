@@ -7,7 +7,7 @@ use Rattle.aes.proofs.state.spread_columns.Statement.{statement}
 use Rattle.aes.proofs.state.spread_columns.Tie as tie
 
 returns : tie.Need-returns
-unfolding spreadBy
+unfolding spreadBy joined
 returns c =
     let second = c .before .before .before in
     c .joined .ensures
