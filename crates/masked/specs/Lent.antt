@@ -1,11 +1,12 @@
 -- The steps of a masked run over what is lent to them: stored boxes, constants and doubles. What inner contracts cite.
 -- Assumes nothing.
 use mathlib.Core.List.{List}
+use mathlib.Core.Path.{_≡_}
 use Prim.Native.Nat.{ℕ, suc, _+_, _*_, _%_}
 use Rattle.aes.specs.State.{at, state, shiftRows}
 use Rattle.aes.specs.Key.{roundKey}
 use Rattle.aes.specs.Lent.{mixedBy}
-use Rattle.aes.specs.Record.{Point, block, keyed, boxed, shifted, mixed, compensated, closed, uncovered, Recorded}
+use Rattle.aes.specs.Record.{Point, block, keyed, boxed, shifted, mixed, compensated, closed, uncovered, whole, run, last, Recorded}
 use Rattle.masked.specs.Mask.{_⊞_}
 
 -- byte i of s by box j + i of the boxes b
@@ -34,3 +35,7 @@ RecordedRounds w b c d o s ps t xs = (first end : List ℕ) → Recorded (steps 
 
 abbrev pub RecordedLast : List ℕ → List ℕ → ℕ → List ℕ → List ℕ → List Point → List ℕ → List ℕ → Type 0
 RecordedLast w b o end s ps t xs = (c d first : List ℕ) → Recorded (steps w b c d o first end) s ps t xs
+
+-- a whole round that ends in t, whatever the first and the last constant are
+abbrev pub ReachedRound : List ℕ → List ℕ → List ℕ → List ℕ → ℕ → List ℕ → ℕ → List ℕ → Type 0
+ReachedRound w b c d o s r t = (first end : List ℕ) → t ≡ last s (run (steps w b c d o first end) s (whole r))

@@ -6,7 +6,7 @@ ghost use lib.ListN.{length};
 ghost use Rattle.aes.specs.Record.{whole, final, wholes, bytes};
 ghost use Rattle.masked.specs.Mask.{maskedBoxes, allCompensations};
 ghost use Rattle.masked.specs.Run.{maskedRecord, maskedCipher};
-ghost use Rattle.masked.specs.Lent.{RecordedRounds, RecordedLast};
+ghost use Rattle.masked.specs.Lent.{RecordedRounds, RecordedLast, ReachedRound};
 use crate::label::Label;
 use crate::label::Round;
 use crate::masks::ending;
@@ -69,7 +69,7 @@ pub(crate) fn unrecorded(
     let mut s = cover(input, first, &mut scratch[0..16]);
     let mut r = 0;
     while r < 13 {
-        let t = round(
+        let t = unrecorded_round(
             s,
             w,
             boxes,
@@ -77,7 +77,6 @@ pub(crate) fn unrecorded(
             &doubles,
             offset,
             Round::number(r),
-            &mut scratch,
         );
         s = t;
         r += 1;
@@ -103,7 +102,7 @@ fn thirteen(
     while n < 13 {
         let a = 80 * n;
         let e = a + 80;
-        let t = round(
+        let t = recorded_round(
             s,
             w,
             boxes,
@@ -119,7 +118,7 @@ fn thirteen(
     s
 }
 
-fn round(
+fn recorded_round(
     s: [u8; 16],
     w: &[u8],
     lent: &[u8; 4096],
@@ -139,6 +138,30 @@ fn round(
     let v = shift_rows(u, &mut states[32..48]);
     let x = mix_columns(v, doubles, &mut states[48..64]);
     compensate(x, compensations, m, &mut states[64..80])
+}
+
+// The same steps where nothing is recorded. It is apart from the recorded round so that the compiler sees that what the steps
+// write here is never read.
+fn unrecorded_round(
+    s: [u8; 16],
+    w: &[u8],
+    lent: &[u8; 4096],
+    compensations: &[u8; 256],
+    doubles: &[u8; 256],
+    offset: u8,
+    r: Round,
+) -> [u8; 16]
+    requires { ⌜ (r .0 < 13) × (length (now w) ≡ 240) ⌝ }
+    ensures { λ t. ⌜ ReachedRound (now (w .entry)) (now (lent .entry)) (now (compensations .entry)) (now (doubles .entry)) offset s (r .0) t ⌝ }
+{
+    let l = Label::make(offset, r);
+    let m = l.next();
+    let mut part = [0u8; 16];
+    let t = add_key(s, w, r, &mut part);
+    let u = boxes(t, lent, l, &mut part);
+    let v = shift_rows(u, &mut part);
+    let x = mix_columns(v, doubles, &mut part);
+    compensate(x, compensations, m, &mut part)
 }
 
 fn last(

@@ -42,7 +42,7 @@ again c =
       λ first end.
           rw wholes-more
           (written-more (size first end) (l .inv .1) (l .inv .3 first end) (whole n) (80 * n) (80 * n + 80) (rw (wholes-length n) (omega arith)) (omega arith) (omega arith) (omega arith)
-          (rw (number .number .ensures) at (round .round .ensures first end))),
+          (rw (number .number .ensures) at (round .recorded-round .ensures first end))),
     )
 
 returns : tie.Need-returns Inv-loop μ-loop

@@ -21,11 +21,11 @@ use Rattle.masked.proofs.run.unrecorded.Statement.{statement}
 use Rattle.masked.proofs.run.unrecorded.Tie as tie
 
 abbrev Inv-loop : tie.InvT-loop
-Inv-loop w boxes compensations offset form doubles end scratch₀ s₀ r₀ scratch s r =
+Inv-loop w boxes compensations offset form doubles end scratch s₀ r₀ s r =
     (r ≤ 13) × (length scratch ≡ 80) × ((first : List ℕ) → s ≡ last s₀ (run (steps w boxes compensations doubles offset first end) s₀ (wholes r)))
 
 abbrev μ-loop : tie.MeasureT-loop
-μ-loop w boxes compensations offset form doubles end scratch₀ s₀ r₀ scratch s r = 13 - r
+μ-loop w boxes compensations offset form doubles end scratch s₀ r₀ s r = 13 - r
 
 begin : tie.Need-loop-holds Inv-loop μ-loop
 unfolding wholes run last
@@ -35,8 +35,7 @@ begin c =
 
 again : tie.Need-loop-again Inv-loop μ-loop
 again c =
-    let round = c .before in
-    let number = round .before .before in
+    let number = c .before in
     let at-loop = number .before .before .before in
     let l = at-loop .loop in
     let cover = at-loop .before .before in
@@ -46,11 +45,11 @@ again c =
     let a = doubles .before .before .args in
     let r : ℕ = l .r in (
       search needs,
-      search needs,
+      l .inv .1,
       λ first.
           rw wholes-more
-          (reached-more (steps (a .w .now) (a .boxes .now) (a .compensations .now) (doubles .doubles .result) (a .offset) first end) (wholes r) (whole r) (cover .cover .result) (l .s) (round .round .result)
-          (l .inv .2 first) (rw (number .number .ensures) at (round .round .ensures first end .end))),
+          (reached-more (steps (a .w .now) (a .boxes .now) (a .compensations .now) (doubles .doubles .result) (a .offset) first end) (wholes r) (whole r) (cover .cover .result) (l .s) (c .unrecorded-round .result)
+          (l .inv .2 first) (rw (number .number .ensures) at (c .unrecorded-round .ensures first end))),
     )
 
 returns : tie.Need-returns Inv-loop μ-loop
@@ -84,4 +83,4 @@ returns c =
 pub unrecorded-spec : {M : Type 1} → statement M
 unrecorded-spec =
     tie.close
-    (tie.spec Inv-loop μ-loop (λ c κs. search needs) (λ c κs. search needs) (λ c κs. search needs) (λ c κs. search needs) (λ c κs. search needs) (λ c κs. search needs) (λ c. search needs) (λ c. search needs) (λ c. search needs) (λ c κs. search needs) begin (λ c κs. search needs) (λ c. search needs) (λ c κs. search needs) (λ c. search needs) (λ c. search needs) again (λ c. search needs) (λ c κs. search needs) returns)
+    (tie.spec Inv-loop μ-loop (λ c κs. search needs) (λ c κs. search needs) (λ c κs. search needs) (λ c κs. search needs) (λ c κs. search needs) (λ c κs. search needs) (λ c. search needs) (λ c. search needs) (λ c. search needs) (λ c κs. search needs) begin (λ c κs. search needs) (λ c κs. search needs) (λ c. search needs) (λ c. search needs) again (λ c. search needs) (λ c κs. search needs) returns)

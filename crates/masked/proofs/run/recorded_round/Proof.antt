@@ -13,8 +13,8 @@ use Rattle.aes.proofs.Written.{Sized, written-none, written-step, written-all}
 use Rattle.masked.specs.Mask.{_⊞_}
 use Rattle.masked.specs.Lent.{boxedBy, steps}
 use Rattle.masked.proofs.LentSteps.{steps-sized}
-use Rattle.masked.proofs.run.round.Statement.{statement}
-use Rattle.masked.proofs.run.round.Tie as tie
+use Rattle.masked.proofs.run.recorded_round.Statement.{statement}
+use Rattle.masked.proofs.run.recorded_round.Tie as tie
 
 returns : tie.Need-returns
 unfolding steps
@@ -45,8 +45,8 @@ returns c =
     (k5 .compensate .ensures .0 ∙ ap (λ (j : ℕ). k4 .mix-columns .result ⊞ roundKey (a .compensations .now) j) (omega (arith, l-is, m-is))) (k5 .compensate .ensures .1) in
     written-all size l h5 refl
 
-pub round-spec : {M : Type 1} → statement M
-round-spec =
+pub recorded-round-spec : {M : Type 1} → statement M
+recorded-round-spec =
     tie.close
     (tie.spec (λ c κs. search needs) (λ c κs. search needs) (λ c. search needs) (λ c. search needs) (λ c. search needs) (λ c κs. search needs) (λ c. search needs) (λ c. search needs) (λ c. search needs) (λ c κs. search needs)
     (λ c. search needs) (λ c. search needs) (λ c. search needs) (λ c κs. search needs) (λ c. search needs) (λ c. search needs) (λ c. search needs) (λ c κs. search needs)
