@@ -2,7 +2,7 @@
 -- Assumes nothing.
 use mathlib.Core.List.{List}
 use mathlib.Core.Path.{_≡_, ap, _∙_}
-use Prim.Native.Nat.{ℕ, _-_, _≤_}
+use Prim.Native.Nat.{ℕ, _+_, _-_, _≤_, _<_}
 use native.Mathlib.Omega.{arith}
 use borrow.Author.Needs.{needs}
 use lib.ListN.{length}
@@ -23,6 +23,9 @@ loop-holds : tie.Need-loop-holds Inv-loop μ-loop
 unfolding expanded
 loop-holds c = (search needs, search needs, search needs, c .start .ensures)
 
+next : (i : ℕ) → 8 ≤ i → i < 60 → (8 ≤ i + 1) × (i + 1 ≤ 60)
+next i le lt = (omega arith, omega arith)
+
 loop-again : tie.Need-loop-again Inv-loop μ-loop
 loop-again c =
     let copied = c .before in
@@ -34,7 +37,8 @@ loop-again c =
     let key : List ℕ = turn .before .before .before .before .before .before .args .key .now in
     let temp-is = tmp .temp .ensures ∙ ap (λ (b : List ℕ). temp b (l .i)) (wrd .word .ensures) in
     let word-is = copied .copy .ensures ∙ sum .sum-word .ensures ∙ λ t. sumWord (sum .before .word2 .ensures t) (temp-is t) in
-    (search needs, search needs, l .inv .2, expanded-held key (l .w) _ (l .i) (l .inv .0) (turn .loop-test .taken) (l .inv .2) (l .inv .3) word-is)
+    let n = next (l .i) (l .inv .0) (turn .loop-test .taken) in
+    (n .0, n .1, l .inv .2, expanded-held key (l .w) _ (l .i) (l .inv .0) (turn .loop-test .taken) (l .inv .2) (l .inv .3) word-is)
 
 returns : tie.Need-returns Inv-loop μ-loop
 unfolding keyExpansion
