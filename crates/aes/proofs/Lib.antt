@@ -6,6 +6,7 @@ pub mod Powers
 pub mod Inverses
 pub mod Boxes
 pub mod Columns
+pub mod Given
 pub mod Steps
 pub mod Undo
 pub mod RoundTrip

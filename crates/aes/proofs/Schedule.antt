@@ -1,6 +1,6 @@
 -- The schedule as a loop makes it, word by word.
 -- Assumes nothing.
-use mathlib.Core.Path.{_≡_, refl, ap}
+use mathlib.Core.Path.{_≡_, refl, ap, _∙_}
 use mathlib.Core.List.{List, [], _∷_, _++_}
 use Prim.Native.Nat.{ℕ, zero, suc, _+_, _-_, _*_, _≤_, _<_}
 use native.Mathlib.Omega.{arith}
@@ -8,7 +8,7 @@ use lib.ListN.{length, length-append}
 use Rattle.aes.specs.State.{at}
 use Rattle.aes.specs.Key.{wordAt, sumWord, temp, nextWord, expanded}
 use Rattle.aes.specs.Held.{Holds}
-use Rattle.aes.proofs.Part.{holds-read}
+use Rattle.aes.proofs.Part.{holds-read, lent, back}
 
 pub next-length : (w : List ℕ) (i : ℕ) → length (nextWord w i) ≡ 4
 unfolding nextWord
@@ -37,3 +37,12 @@ module _ (n i : ℕ) (p w : List ℕ) (h : Holds n p w) (l : length p ≡ 4 * i)
   pub next-held : 8 ≤ i → sumWord (wordAt w (i - 8)) (temp (wordAt w (i - 1)) i) ≡ nextWord p i
   unfolding nextWord
   next-held le = λ t. sumWord (word-held (i - 8) (omega arith) t) (temp (word-held (i - 1) (omega arith) t) i)
+
+-- the word that is made at i is written behind them
+pub expanded-held : (key w ys : List ℕ) (i : ℕ) → 8 ≤ i → i < 60 → length key ≡ 32 → Holds 240 (expanded key (i - 8)) w
+    → ys ≡ sumWord (wordAt w (i - 8)) (temp (wordAt w (i - 1)) i) → Holds 240 (expanded key (i + 1 - 8)) (back w (4 * i) (4 * i + 4 - 4 * i) ys)
+expanded-held key w ys i le lt k h e =
+    let p : List ℕ = expanded key (i - 8) in
+    let size : length p ≡ 4 * i = expanded-length key (i - 8) k ∙ omega arith in
+    rw (expanded-more key i le)
+    (lent 240 (4 * i) (4 * i + 4) p (nextWord p i) w ys h size (e ∙ next-held 240 i p w h size le) (next-length p i ∙ omega arith) (omega arith) (omega arith))

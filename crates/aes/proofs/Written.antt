@@ -2,7 +2,7 @@
 -- Assumes nothing.
 use mathlib.Core.Path.{_≡_, refl, sym, ap, _∙_}
 use mathlib.Core.List.{List, [], _∷_, _++_, append-assoc, append-nil}
-use Prim.Native.Nat.{ℕ, zero, suc, _+_, _*_, _-_, _≤_}
+use Prim.Native.Nat.{ℕ, zero, suc, _+_, _*_, _-_, _≤_, _<_}
 use native.Mathlib.Numerals.{add-one}
 use native.Mathlib.Omega.{arith}
 use lib.ListN.{length, length-append}
@@ -81,3 +81,10 @@ wholes-length (suc n) = simp (length-append, wholes-length n) (omega arith)
 pub wholes-more : (n : ℕ) → wholes (n + 1) ≡ wholes n ++ whole n
 unfolding wholes
 wholes-more n = rw add-one
+
+-- a whole round more, in the 80 bytes behind the r that are written
+pub written-round : {f : Point → List ℕ → List ℕ} → Sized f → {s t t′ xs ys : List ℕ} → length s ≡ 16 → (r : ℕ) → r < 13 → Written f s 1040 (wholes r) t xs
+    → Recorded f t (whole r) t′ ys → Written f s 1040 (wholes (r + 1)) t′ (back xs (80 * r) (80 * r + 80 - 80 * r) ys)
+written-round h l r lt w d =
+    rw wholes-more
+    (written-more h l w (whole r) (80 * r) (80 * r + 80) (rw (wholes-length r) (omega arith)) (omega arith) (omega arith) (omega arith) d)

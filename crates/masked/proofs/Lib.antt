@@ -9,6 +9,5 @@ pub mod RecordBytes
 pub mod RecordBalance
 pub mod Endings
 pub mod LentSteps
-pub mod Given
 pub mod Checked
 pub mod Unique

@@ -1,9 +1,11 @@
 -- What the rounds left would make of the state is what they all would have made of the first.
 -- Assumes nothing.
-use mathlib.Core.Path.{_≡_, refl}
-use Prim.Native.Nat.{_≤_}
+use mathlib.Core.List.{List}
+use mathlib.Core.Path.{_≡_, refl, sym, ap, _∙_}
+use Prim.Native.Nat.{ℕ, _-_, _≤_}
 use native.Mathlib.Omega.{arith}
 use borrow.Author.Needs.{needs}
+use Rattle.aes.specs.State.{invSubBytes, invShiftRows, addRoundKey}
 use Rattle.aes.specs.Cipher.{invRounds, invCipher}
 use Rattle.aes.proofs.Rounds.{inv-rounds-none, inv-rounds-more}
 use Rattle.aes.proofs.cipher.decrypted.Statement.{statement}
@@ -18,16 +20,25 @@ abbrev μ-loop : tie.MeasureT-loop
 loop-again : tie.Need-loop-again Inv-loop μ-loop
 loop-again c =
     let at-loop = c .before .before .before .before in
-    let start = at-loop .before .before .before .before .before .before in
-    (search needs, cc (inv-rounds-more (start .args .w .now) (at-loop .loop .s) (at-loop .loop .r) (search needs)))
+    let l = at-loop .loop in
+    let w : List ℕ = at-loop .before .before .before .before .before .before .args .w .now in
+    let more = ap (λ (s : List ℕ). invRounds w s (l .r - 1)) (c .inv-round .ensures) in
+    (search needs, more ∙ sym (inv-rounds-more w (l .s) (l .r) (omega arith)) ∙ l .inv .1)
 
 returns : tie.Need-returns Inv-loop μ-loop
 unfolding invCipher
 returns c =
-    let at-loop = c .before .before .before .before .before in
-    let start = at-loop .before .before .before .before .before .before in
-    let e : at-loop .loop .r ≡ 0 = omega arith in
-    cc (inv-rounds-none (start .args .w .now) (at-loop .loop .s))
+    let key = c .before in
+    let sub = key .before in
+    let at-loop = sub .before .before .before in
+    let l = at-loop .loop in
+    let first = at-loop .before in
+    let a = first .before .before .before .before .before .args in
+    let e : l .r ≡ 0 = omega arith in
+    let begun = first .add .ensures ∙ ap (addRoundKey (a .input)) (first .before .round-key .ensures) in
+    let done = sym (inv-rounds-none (a .w .now) (l .s)) ∙ ap (invRounds (a .w .now) (l .s)) (sym e) ∙ l .inv .1 ∙ ap (λ (s : List ℕ). invRounds (a .w .now) s 13) begun in
+    let shifted = sub .inv-shift-sub .ensures ∙ ap (λ (s : List ℕ). invSubBytes (invShiftRows s)) done in
+    c .add2 .ensures ∙ λ i. addRoundKey (shifted i) (key .round-key2 .ensures i)
 
 pub decrypted-spec : {M : Type 1} → statement M
 decrypted-spec =

@@ -1,9 +1,12 @@
 -- After r turns, r rounds are done.
 -- Assumes nothing.
-use mathlib.Core.Path.{_≡_}
-use Prim.Native.Nat.{ℕ, _-_, _≤_}
+use mathlib.Core.List.{List}
+use mathlib.Core.Path.{_≡_, sym, ap, _∙_}
+use Prim.Native.Nat.{ℕ, _+_, _-_, _≤_}
 use native.Mathlib.Omega.{arith}
 use borrow.Author.Needs.{needs}
+use Rattle.aes.specs.State.{subBytes, shiftRows, mixColumns, addRoundKey}
+use Rattle.aes.specs.Key.{roundKey}
 use Rattle.aes.specs.Cipher.{rounds, cipher}
 use Rattle.aes.proofs.Rounds.{rounds-none, rounds-more}
 use Rattle.aes.proofs.cipher.encrypted.Statement.{statement}
@@ -18,15 +21,25 @@ abbrev μ-loop : tie.MeasureT-loop
 loop-again : tie.Need-loop-again Inv-loop μ-loop
 loop-again c =
     let at-loop = c .before .before .before .before in
-    let start = at-loop .before .before .before .before .before .before in
-    (search needs, cc (rounds-more (start .args .w .now) (at-loop .before .add .result) (at-loop .loop .r)))
+    let l = at-loop .loop in
+    let first = at-loop .before in
+    let w : List ℕ = first .before .before .before .before .before .args .w .now in
+    let more = ap (λ (s : List ℕ). addRoundKey (mixColumns (shiftRows (subBytes s))) (roundKey w (l .r + 1))) (l .inv .1) in
+    (search needs, c .round .ensures ∙ more ∙ sym (rounds-more w (first .add .result) (l .r)))
 
 returns : tie.Need-returns Inv-loop μ-loop
 unfolding cipher
 returns c =
-    let r : ℕ = c .before .before .before .before .before .loop .r in
-    let e : r ≡ 13 = omega arith in
-    cc
+    let key = c .before in
+    let sub = key .before in
+    let at-loop = sub .before .before .before in
+    let first = at-loop .before in
+    let a = first .before .before .before .before .before .args in
+    let e : at-loop .loop .r ≡ 13 = omega arith in
+    let begun = first .add .ensures ∙ ap (addRoundKey (a .input)) (first .before .round-key .ensures) in
+    let done = at-loop .loop .inv .1 ∙ λ i. rounds (a .w .now) (begun i) (e i) in
+    let shifted = sub .sub-shift .ensures ∙ ap (λ (s : List ℕ). shiftRows (subBytes s)) done in
+    c .add2 .ensures ∙ λ i. addRoundKey (shifted i) (key .round-key2 .ensures i)
 
 pub encrypted-spec : {M : Type 1} → statement M
 encrypted-spec =

@@ -1,7 +1,8 @@
 -- 00 where a factor is 00; else the power at the sum of the logarithms modulo 255.
 -- Assumes nothing.
 use borrow.Author.Needs.{needs}
-use mathlib.Core.Path.{sym}
+use mathlib.Core.Path.{sym, _∙_}
+use native.Mathlib.Nat.{pos-of-ne-zero}
 use native.Mathlib.Omega.{arith}
 use Rattle.aes.proofs.FieldLaws.{product-zero-left, product-zero-right}
 use Rattle.aes.proofs.Powers.{logarithm-below, product-by-logarithms}
@@ -16,17 +17,22 @@ returns-2 c = rw (c .if2 .taken) (sym (product-zero-right _))
 
 add-power-at : tie.Need-add-power-at
 add-power-at c =
-    let start = c .before .before .before .before .before .before .before in
-    omega (
-      arith,
-      logarithm-below (start .args .a) (search needs) (search needs),
-      logarithm-below (start .args .b) (search needs) (search needs),
-    )
+    let else2 = c .before .before .before .before .before in
+    let start = else2 .before .before in
+    let a-below = logarithm-below (start .args .a) (pos-of-ne-zero (else2 .before .if1 .left)) (start .fits .a .fits) in
+    let b-below = logarithm-below (start .args .b) (pos-of-ne-zero (else2 .if2 .left)) (start .fits .b .fits) in
+    omega (arith, a-below, b-below)
 
 returns-3 : tie.Need-returns-3
 returns-3 c =
-    let start = c .before .before .before .before .before .before .before .before in
-    cc (product-by-logarithms (start .args .a) (start .args .b) (search needs) (search needs) (search needs) (search needs))
+    let second = c .before in
+    let first = second .before .before in
+    let else2 = first .before .before .before in
+    let start = else2 .before .before in
+    c .power-at .ensures
+    ∙ rw (first .logarithm-in .ensures, second .logarithm-in2 .ensures)
+    (product-by-logarithms (start .args .a) (start .args .b) (pos-of-ne-zero (else2 .before .if1 .left)) (start .fits .a .fits) (pos-of-ne-zero (else2 .if2 .left))
+    (start .fits .b .fits))
 
 pub multiply-spec : {M : Type 1} → statement M
 multiply-spec =

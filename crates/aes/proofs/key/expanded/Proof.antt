@@ -2,14 +2,14 @@
 -- Assumes nothing.
 use mathlib.Core.List.{List}
 use mathlib.Core.Path.{_≡_, ap, _∙_}
-use Prim.Native.Nat.{ℕ, _+_, _-_, _*_, _≤_}
+use Prim.Native.Nat.{ℕ, _+_, _-_, _≤_, _<_}
 use native.Mathlib.Omega.{arith}
 use borrow.Author.Needs.{needs}
 use lib.ListN.{length}
-use Rattle.aes.specs.Key.{sumWord, temp, nextWord, expanded, keyExpansion}
+use Rattle.aes.specs.Key.{sumWord, temp, expanded, keyExpansion}
 use Rattle.aes.specs.Held.{Holds}
-use Rattle.aes.proofs.Part.{holds-all, lent}
-use Rattle.aes.proofs.Schedule.{next-length, expanded-length, expanded-more, next-held}
+use Rattle.aes.proofs.Part.{holds-all}
+use Rattle.aes.proofs.Schedule.{expanded-length, expanded-held}
 use Rattle.aes.proofs.key.expanded.Statement.{statement}
 use Rattle.aes.proofs.key.expanded.Tie as tie
 
@@ -23,26 +23,22 @@ loop-holds : tie.Need-loop-holds Inv-loop μ-loop
 unfolding expanded
 loop-holds c = (search needs, search needs, search needs, c .start .ensures)
 
+next : (i : ℕ) → 8 ≤ i → i < 60 → (8 ≤ i + 1) × (i + 1 ≤ 60)
+next i le lt = (omega arith, omega arith)
+
 loop-again : tie.Need-loop-again Inv-loop μ-loop
 loop-again c =
-    let sum = c .before .before .before .before in
+    let copied = c .before in
+    let sum = copied .before .before .before in
     let tmp = sum .before .before .before in
     let wrd = tmp .before .before .before in
-    let l = wrd .before .before .before .loop in
-    let key : List ℕ = wrd .before .before .before .before .before .before .before .before .args .key .now in
-    let i : ℕ = l .i in
-    let p : List ℕ = expanded key (i - 8) in
-    let size : length p ≡ 4 * i = expanded-length key (i - 8) (l .inv .2) ∙ omega arith in
-    let word-is : sum .sum-word .result ≡ nextWord p i =
-    sum .sum-word .ensures
-    ∙ (λ t. sumWord (sum .before .word2 .ensures t) ((tmp .temp .ensures ∙ ap (λ (b : List ℕ). temp b i) (wrd .word .ensures)) t))
-    ∙ next-held 240 i p (l .w) (l .inv .3) size (l .inv .0) in (
-      search needs,
-      search needs,
-      l .inv .2,
-      rw (expanded-more key i (l .inv .0))
-          (lent 240 (4 * i) (4 * i + 4) p (nextWord p i) (l .w) _ (l .inv .3) size (c .before .copy .ensures ∙ word-is) (next-length p i ∙ omega arith) (omega arith) (omega arith)),
-    )
+    let turn = wrd .before .before in
+    let l = turn .before .loop in
+    let key : List ℕ = turn .before .before .before .before .before .before .args .key .now in
+    let temp-is = tmp .temp .ensures ∙ ap (λ (b : List ℕ). temp b (l .i)) (wrd .word .ensures) in
+    let word-is = copied .copy .ensures ∙ sum .sum-word .ensures ∙ λ t. sumWord (sum .before .word2 .ensures t) (temp-is t) in
+    let n = next (l .i) (l .inv .0) (turn .loop-test .taken) in
+    (n .0, n .1, l .inv .2, expanded-held key (l .w) _ (l .i) (l .inv .0) (turn .loop-test .taken) (l .inv .2) (l .inv .3) word-is)
 
 returns : tie.Need-returns Inv-loop μ-loop
 unfolding keyExpansion

@@ -1,17 +1,25 @@
 -- Over the lent table the substitution is SUBBYTES.
 -- Assumes nothing.
 use mathlib.Core.List.{List}
+use mathlib.Core.Path.{ap, _∙_}
 use Prim.Native.Nat.{ℕ}
 use borrow.Author.Needs.{needs}
-use Rattle.aes.specs.State.{at}
-use Rattle.aes.proofs.Steps.{byte, sub-lent}
+use Rattle.aes.specs.Lent.{substituted}
+use Rattle.aes.proofs.Given.{array-bytes}
+use Rattle.aes.proofs.Steps.{sub-lent}
 use Rattle.aes.proofs.record.boxes.Statement.{statement}
 use Rattle.aes.proofs.record.boxes.Tie as tie
 
 returns : tie.Need-returns
 returns c =
-    let s : List ℕ = c .before .before .before .before .before .before .args .s in
-    (cc (sub-lent s (record { size = search needs; byte = λ i. byte (at s i) (search needs) })), c .before .before .keep .ensures .1)
+    let keep = c .before .before in
+    let sub = keep .before .before in
+    let start = sub .before .before in
+    let s : List ℕ = start .args .s in (
+      keep .keep .ensures .0 ∙ sub .substitute .ensures ∙ ap (λ (t : List ℕ). substituted t s) (start .pre .0)
+          ∙ sub-lent s (array-bytes (start .good .0)),
+      keep .keep .ensures .1,
+    )
 
 pub boxes-spec : {M : Type 1} → statement M
 boxes-spec = tie.close (tie.spec (λ c κs. search needs) (λ c κs. search needs) (λ c. search needs) returns)

@@ -2,12 +2,12 @@
 -- Assumes nothing.
 use mathlib.Core.List.{List}
 use mathlib.Core.Path.{_≡_}
-use Prim.Native.Nat.{ℕ, _*_, _+_, _-_, _≤_}
+use Prim.Native.Nat.{ℕ, _-_, _≤_}
 use native.Mathlib.Omega.{arith}
 use borrow.Author.Needs.{needs}
 use lib.ListN.{length}
-use Rattle.aes.specs.Record.{whole, wholes, plain}
-use Rattle.aes.proofs.Written.{Written, written-none, written-more, written-all, wholes-length, wholes-more}
+use Rattle.aes.specs.Record.{wholes, plain}
+use Rattle.aes.proofs.Written.{Written, written-none, written-round, written-all, wholes-length}
 use Rattle.aes.proofs.PlainRun.{plain-sized}
 use Rattle.aes.proofs.record.thirteen.Statement.{statement}
 use Rattle.aes.proofs.record.thirteen.Tie as tie
@@ -26,15 +26,11 @@ loop-holds c =
 
 loop-again : tie.Need-loop-again Inv-loop μ-loop
 loop-again c =
-    let l = c .before .before .before .before .before .loop in
-    let w : List ℕ = c .before .before .before .before .before .before .before .before .args .w .now in
-    let r : ℕ = l .r in (
-      search needs,
-      l .inv .1,
-      rw wholes-more
-          (written-more (plain-sized w) (l .inv .1) (l .inv .2) (whole r) (80 * r) (80 * r + 80) (rw (wholes-length r) (omega arith)) (omega arith) (omega arith) (omega arith)
-          (c .before .before .round .ensures)),
-    )
+    let round = c .before .before in
+    let turn = round .before .before in
+    let l = turn .before .loop in
+    let w : List ℕ = turn .before .before .before .before .args .w .now in
+    (search needs, l .inv .1, written-round (plain-sized w) (l .inv .1) (l .r) (turn .loop-test .taken) (l .inv .2) (round .round .ensures))
 
 returns : tie.Need-returns Inv-loop μ-loop
 returns c =

@@ -8,11 +8,11 @@ use lib.Dec.{lit≤}
 use lib.ListN.{length, length-append}
 use Rattle.aes.specs.State.{at, Bytes}
 use Rattle.aes.specs.Record.{block, final, wholes, points, bytes}
+use Rattle.aes.proofs.Given.{array-bytes}
 use Rattle.aes.proofs.Steps.{byte}
 use Rattle.aes.proofs.Written.{Sized, written-none, written-step, written-more, written-all, wholes-length}
 use Rattle.masked.specs.Mask.{mask, ending}
 use Rattle.masked.specs.Lent.{steps}
-use Rattle.masked.proofs.Given.{array-bytes}
 use Rattle.masked.proofs.LentSteps.{steps-sized, lent-record}
 use Rattle.masked.proofs.run.recorded.Statement.{statement}
 use Rattle.masked.proofs.run.recorded.Tie as tie
@@ -35,8 +35,8 @@ returns c =
     let end : List ℕ = uncovering .ending .result in
     let f = steps (a .w .now) (a .boxes .now) (a .compensations .now) (doubles .doubles .result) o first end in
     let size : Sized f = steps-sized (a .w .now) (a .boxes .now) (a .compensations .now) (doubles .doubles .result) o first end in
-    let b : Bytes 16 (a .input) = array-bytes (start .good .0 .0) (start .good .0 .1 .0 .1) (start .good .0 .1 .1) in
-    let m : Bytes 16 M = array-bytes (start .good .1 .1 .0 .0) (start .good .1 .1 .0 .1 .0 .1) (start .good .1 .1 .0 .1 .1) in
+    let b : Bytes 16 (a .input) = array-bytes (start .good .0) in
+    let m : Bytes 16 M = array-bytes (start .good .1 .1 .0) in
     let w : Bytes 240 (a .w .now) = record { size = start .pre .0; byte = λ i. byte (at (a .w .now) i) (doubles .before .before .shared-slice-known .given i) } in
     let five : length (wholes 13) ≡ 65 = wholes-length 13 in
     let h0 = written-none f (a .input) 1136 (a .states .now) (start .pre .3) in

@@ -9,13 +9,13 @@ use lib.ListN.{length}
 use Rattle.aes.specs.State.{at, Bytes}
 use Rattle.aes.specs.Record.{block, whole, final, wholes, points, run, last}
 use Rattle.aes.proofs.Part.{holds-first}
+use Rattle.aes.proofs.Given.{array-bytes}
 use Rattle.aes.proofs.Steps.{byte}
 use Rattle.aes.proofs.Undo.{add-size}
 use Rattle.aes.proofs.Written.{wholes-more}
 use Rattle.masked.specs.Mask.{mask, ending}
 use Rattle.masked.specs.Run.{maskedCipher}
 use Rattle.masked.specs.Lent.{steps}
-use Rattle.masked.proofs.Given.{array-bytes}
 use Rattle.masked.proofs.LentSteps.{reached-more, lent-record}
 use Rattle.masked.proofs.run.unrecorded.Statement.{statement}
 use Rattle.masked.proofs.run.unrecorded.Tie as tie
@@ -69,8 +69,8 @@ returns c =
     let first : List ℕ = covering .mask .result in
     let end : List ℕ = uncovering .ending .result in
     let f = steps (a .w .now) (a .boxes .now) (a .compensations .now) (doubles .doubles .result) o first end in
-    let b : Bytes 16 (a .input) = array-bytes (start .good .0 .0) (start .good .0 .1 .0 .1) (start .good .0 .1 .1) in
-    let m : Bytes 16 M = array-bytes (start .good .1 .1 .0 .0) (start .good .1 .1 .0 .1 .0 .1) (start .good .1 .1 .0 .1 .1) in
+    let b : Bytes 16 (a .input) = array-bytes (start .good .0) in
+    let m : Bytes 16 M = array-bytes (start .good .1 .1 .0) in
     let w : Bytes 240 (a .w .now) = record { size = start .pre .0; byte = λ i. byte (at (a .w .now) i) (doubles .before .shared-slice-known .given i) } in
     let e : l .r ≡ 13 = omega arith in
     let rounds = reached-more f (block ∷ []) (wholes 13) (a .input) (k1 .cover .result) (l .s) (k1 .cover .ensures .0) (rw e at (l .inv .2 first)) in
