@@ -14,13 +14,14 @@ use Rattle.aes.specs.Field.{xTimes}
 use Rattle.aes.specs.Box.{sBox}
 use Rattle.aes.specs.State.{at, state, shiftRows, mixColumns, addRoundKey, Bytes}
 use Rattle.aes.specs.Key.{roundKey}
-use Rattle.aes.specs.Lent.{joined, mixedBy}
+use Rattle.aes.specs.Lent.{mixedBy}
 use Rattle.aes.specs.Record.{Point, block, keyed, boxed, shifted, mixed, compensated, closed, uncovered, whole, wholes, points, run, last}
 use Rattle.aes.proofs.Xor.{xor-byte}
 use Rattle.aes.proofs.Listed.{table-same}
 use Rattle.aes.proofs.Boxes.{sBox-byte}
 use Rattle.aes.proofs.Steps.{mix-lent}
 use Rattle.aes.proofs.Undo.{state-bytes, add-bytes, shift-bytes, mix-bytes}
+use Rattle.aes.proofs.RoundTrip.{key-bytes}
 use Rattle.aes.proofs.Written.{Sized, run-append, last-append}
 use Rattle.masked.specs.Mask.{_⊞_, maskByte, mask, maskedBox, maskedBoxes, compensation, allCompensations, ending}
 use Rattle.masked.specs.Run.{covered, maskedRecord}
@@ -28,7 +29,7 @@ use Rattle.masked.specs.Lent.{boxedBy, steps}
 use Rattle.masked.proofs.Store.{box-at, compensation-at}
 
 pub steps-sized : (w b c d : List ℕ) (o : ℕ) (first end : List ℕ) → Sized (steps w b c d o first end)
-unfolding steps addRoundKey boxedBy shiftRows mixedBy joined
+unfolding steps addRoundKey boxedBy shiftRows mixedBy
 steps-sized w b c d o first end block s l = refl
 steps-sized w b c d o first end (keyed r) s l = refl
 steps-sized w b c d o first end (boxed r) s l = refl
@@ -65,10 +66,6 @@ module _ {M w : List ℕ} (hM : Bytes 16 M) (hw : Bytes 240 w) (form o : ℕ) wh
   unfolding mask
   mask-bytes j = state-bytes (maskByte M j) (λ i. hM .byte _)
 
-  key-bytes : (r : ℕ) → Bytes 16 (roundKey w r)
-  unfolding roundKey
-  key-bytes r = state-bytes (λ i. at w (16 * r + i)) (λ i. hw .byte (16 * r + i))
-
   box-byte : (j x : ℕ) → x < 256 → maskedBox M j x < 256
   unfolding maskedBox
   box-byte j x h =
@@ -86,12 +83,12 @@ module _ {M w : List ℕ} (hM : Bytes 16 M) (hw : Bytes 240 w) (form o : ℕ) wh
   covered-bytes : (p : Point) {s : List ℕ} → Bytes 16 s → Bytes 16 (covered form M o w p s)
   unfolding covered
   covered-bytes block h = add-bytes h (mask-bytes o)
-  covered-bytes (keyed r) h = add-bytes h (key-bytes r)
+  covered-bytes (keyed r) h = add-bytes h (key-bytes 240 w hw r)
   covered-bytes (boxed r) {s} h = state-bytes (λ i. maskedBox M (o + i + r) (at s i)) (λ i. box-byte (o + i + r) (at s i) (h .byte i))
   covered-bytes (shifted r) h = shift-bytes h
   covered-bytes (mixed r) {s} h = mix-bytes s
   covered-bytes (compensated r) h = add-bytes h (compensation-bytes (o + 1 + r))
-  covered-bytes (closed r) h = add-bytes h (key-bytes (suc r))
+  covered-bytes (closed r) h = add-bytes h (key-bytes 240 w hw (suc r))
   covered-bytes (uncovered r) h = add-bytes h (ending-bytes form (o + suc r))
 
   -- the steps as a run of fourteen rounds has them

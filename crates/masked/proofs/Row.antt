@@ -1,6 +1,6 @@
 -- Tables that stand one after the other in a row, all of one size.
 -- Assumes nothing.
-use mathlib.Core.Path.{_≡_, refl, sym, _∙_}
+use mathlib.Core.Path.{_≡_, sym, _∙_}
 use mathlib.Core.List.{List, _++_}
 use Prim.Native.Nat.{ℕ, zero, suc, _+_, _*_, _≤_, _<_}
 use native.Mathlib.Nat.{mul-suc, mul-zero}
@@ -10,10 +10,6 @@ use native.Mathlib.Decide.{ℕ-discrete}
 use lib.ListN.{length, getD, length-append, List·getD-append}
 use lib.Seq.{getD-append-add}
 use Rattle.masked.specs.Mask.{inRow}
-
-pub row-none : (f : ℕ → List ℕ) → length (inRow f 0) ≡ 0
-unfolding inRow
-row-none f = refl
 
 pub row-more : (f : ℕ → List ℕ) (n : ℕ) → inRow f (n + 1) ≡ inRow f n ++ f n
 unfolding inRow

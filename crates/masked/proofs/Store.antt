@@ -36,19 +36,20 @@ boxes-worked-out {M} h =
     ap (λ (f : ℕ → List ℕ). inRow f 16)
     (fun-ext (λ j. table-same (maskedBox M j) (lookedUp boxes M j) 256 (looked-up h j)))
 
-fit : List ℕ → Bool
-fit [] = true
-fit (x ∷ l) = ltb x 256 && fit l
+-- every entry is a byte
+small : List ℕ → Bool
+small [] = true
+small (x ∷ l) = ltb x 256 && small l
 
-fit-at : (l : List ℕ) → T (fit l) → (i : ℕ) → at l i < 256
-unfolding fit
-fit-at [] t i = lit< tt
-fit-at (x ∷ l) t zero = lit< (and-yes (ltb x 256) (fit l) t .0)
-fit-at (x ∷ l) t (suc i) = fit-at l (and-yes (ltb x 256) (fit l) t .1) i
+small-at : (l : List ℕ) → T (small l) → (i : ℕ) → at l i < 256
+unfolding small
+small-at [] t i = lit< tt
+small-at (x ∷ l) t zero = lit< (and-yes (ltb x 256) (small l) t .0)
+small-at (x ∷ l) t (suc i) = small-at l (and-yes (ltb x 256) (small l) t .1) i
 
 published-bytes : Bytes 16 published
-unfolding published fit
-published-bytes = record { size = refl; byte = fit-at published tt }
+unfolding published small
+published-bytes = record { size = refl; byte = small-at published tt }
 
 pub published-worked-out : maskedBoxes published ≡ (let l : List ℕ = boxes in inRow (λ j. table (lookedUp l published j) 256) 16)
 published-worked-out = boxes-worked-out published-bytes

@@ -11,6 +11,7 @@ use crate::masks;
 use crate::run::unrecorded;
 use aes::reply;
 
+// Writes the block that the masked run ends with, over the published masks.
 pub fn encrypt_published(
     schedule: &[u8],
     input: &[u8],
@@ -29,6 +30,7 @@ pub fn encrypt_published(
     reply::DONE
 }
 
+// The same over sixteen lent masks.
 pub fn encrypt_masked(
     schedule: &[u8],
     input: &[u8],
@@ -47,6 +49,7 @@ pub fn encrypt_masked(
     reply::DONE
 }
 
+// Past the checks: from stored tables, and from tables that are worked out before the block is read.
 fn by_stored_boxes(schedule: &[u8], input: &[u8], output: &mut [u8], offset: u8, form: u8)
     requires { ⌜ (length (now schedule) ≡ 240) × (length (now input) ≡ 16) × (length (now output) ≡ 16) ⌝ }
     ensures { λ _. ⌜ now (output .exit) ≡ maskedCipher 14 form published offset (now (schedule .entry)) (now (input .entry)) ⌝ }

@@ -1,5 +1,5 @@
-// Masked runs, made of the steps alone: recorded, where each step is lent its part of the record, and unrecorded, where all
-// rounds write to one scratch.
+// Masked runs, made of the steps alone: recorded, where each step is lent its part of the record, and unrecorded, where it is lent
+// a scratch.
 ghost use mathlib.Core.Path.{_≡_};
 ghost use Prim.Native.Nat.{_<_};
 ghost use lib.ListN.{length};

@@ -1,13 +1,13 @@
 -- After n turns the states of n rounds stand in the buffer.
 -- Assumes nothing.
 use mathlib.Core.List.{List, []}
-use mathlib.Core.Path.{_≡_, ap, _∙_}
+use mathlib.Core.Path.{_≡_}
 use Prim.Native.Nat.{ℕ, _*_, _+_, _-_, _≤_}
 use native.Mathlib.Omega.{arith}
 use borrow.Author.Needs.{needs}
 use lib.ListN.{length}
-use Rattle.aes.specs.Record.{whole, wholes, Recorded}
-use Rattle.aes.proofs.Written.{Written, written-none, written-more, written-all, wholes-length, wholes-more}
+use Rattle.aes.specs.Record.{wholes}
+use Rattle.aes.proofs.Written.{Written, written-none, written-round, written-all, wholes-length}
 use Rattle.masked.specs.Lent.{steps}
 use Rattle.masked.proofs.LentSteps.{steps-sized}
 use Rattle.masked.proofs.run.thirteen.Statement.{statement}
@@ -39,10 +39,7 @@ again c =
       search needs,
       l .inv .1,
       search needs,
-      λ first end.
-          rw wholes-more
-          (written-more (size first end) (l .inv .1) (l .inv .3 first end) (whole n) (80 * n) (80 * n + 80) (rw (wholes-length n) (omega arith)) (omega arith) (omega arith) (omega arith)
-          (rw (number .number .ensures) at (round .recorded-round .ensures first end))),
+      λ first end. written-round (size first end) (l .inv .1) n (search needs) (l .inv .3 first end) (rw (number .number .ensures) at (round .recorded-round .ensures first end)),
     )
 
 returns : tie.Need-returns Inv-loop μ-loop
