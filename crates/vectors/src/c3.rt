@@ -2,12 +2,14 @@
 use crate::counts;
 use crate::counts::CELLS;
 use crate::counts::count;
+use crate::example::block;
+use crate::example::key;
+use crate::example::state_is;
 use crate::fault;
 use crate::masked_c3;
 use crate::text::place_of;
 use crate::text::read_field;
 use aes::reply::DONE;
-use check::same;
 
 // A state stands at its number in the record; a round key, at its own number after these.
 const SCHEDULED: usize = 71;
@@ -78,26 +80,4 @@ fn recorded(schedule: &[u8; 240], place: usize, state: &[u8; 16]) -> bool {
         return false;
     }
     state_is(&record, place, state)
-}
-
-// The key and the block of the appendix.
-pub fn key() -> [u8; 32] {
-    *b"\
-\x00\x01\x02\x03\x04\x05\x06\x07\x08\x09\x0a\x0b\x0c\x0d\x0e\x0f\
-\x10\x11\x12\x13\x14\x15\x16\x17\x18\x19\x1a\x1b\x1c\x1d\x1e\x1f"
-}
-
-pub fn block() -> [u8; 16] {
-    *b"\x00\x11\x22\x33\x44\x55\x66\x77\x88\x99\xaa\xbb\xcc\xdd\xee\xff"
-}
-
-pub fn state_is(states: &[u8], n: usize, state: &[u8]) -> bool {
-    if n < 71 {
-        let from = 16 * n;
-        let to = from + 16;
-        if to <= states.len() {
-            return same(&states[from..to], state);
-        }
-    }
-    false
 }

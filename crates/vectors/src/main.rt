@@ -3,6 +3,7 @@
 mod c3;
 mod calls;
 mod counts;
+mod example;
 mod fault;
 mod masked_c3;
 mod masked_calls;

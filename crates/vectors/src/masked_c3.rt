@@ -1,10 +1,11 @@
 // The states of C.3 in the record of a masked run: at all sixteen offsets each stands at its number, under the mask that lies
 // there.
-use crate::c3;
-use crate::c3::state_is;
 use crate::counts;
 use crate::counts::CELLS;
 use crate::counts::count;
+use crate::example::block;
+use crate::example::key;
+use crate::example::state_is;
 use crate::masks::Masks;
 use crate::masks::over_state;
 use crate::masks::table;
@@ -41,12 +42,12 @@ fn at_all_offsets(place: usize, state: &[u8; 16], counts: &mut [u64; CELLS]) {
 
 fn stands(masks: Masks, offset: u8, place: usize, state: &[u8; 16]) -> bool {
     let mut schedule = [0u8; 240];
-    if aes::expand_key(&c3::key(), &mut schedule) != DONE {
+    if aes::expand_key(&key(), &mut schedule) != DONE {
         return false;
     }
     let table = table(masks, state);
     let mut record = [0u8; 1136];
-    if masked::record_masked(&schedule, &c3::block(), &table, offset, &mut record) != DONE {
+    if masked::record_masked(&schedule, &block(), &table, offset, &mut record) != DONE {
         return false;
     }
     let covered = add(*state, over_state(table, offset, place));
