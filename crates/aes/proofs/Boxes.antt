@@ -1,4 +1,4 @@
--- The S-box and its inverse, as antt works them out, and that they undo each other.
+-- The S-box and its inverse, as antt works them out.
 -- Assumes nothing.
 use mathlib.Core.Path.{_≡_, refl, sym, ap, _∙_}
 use mathlib.Core.List.{List}
@@ -8,7 +8,7 @@ use lib.ListN.{getD}
 use Rattle.aes.specs.Byte.{fromBits, table, place}
 use Rattle.aes.specs.Field.{inverse}
 use Rattle.aes.specs.Box.{affine, sBox, invSBox}
-use Rattle.aes.proofs.Listed.{Inverted, table-same, agree, place-below, place-right, place-only}
+use Rattle.aes.proofs.Listed.{table-same, agree}
 use Rattle.aes.proofs.Powers.{powers, powers-at, logarithm-is}
 use Rattle.aes.proofs.Inverses.{inverse-byte, inverse-zero, inverse-by-logarithm}
 
@@ -36,26 +36,6 @@ boxes-are = table-same sBox (λ b. affine (reciprocal powers b)) 256 (λ b h. ap
 pub inv-boxes-are : table invSBox 256 ≡ (let l : List ℕ = boxes in table (λ b. place b l) 256)
 unfolding invSBox
 inv-boxes-are = ap (λ (l : List ℕ). table (λ b. place b l) 256) boxes-are
-
--- the test over all 256 entries: each byte stands in the box, and once
-test : Inverted (λ b. b) 256 boxes
-unfolding boxes
-test = (refl, refl, refl)
-
-inverted : Inverted (λ b. b) 256 (table sBox 256)
-inverted = rw boxes-are test
-
-pub invSBox-byte : (b : ℕ) → b < 256 → invSBox b < 256
-unfolding invSBox
-invSBox-byte = place-below sBox (λ b. b) 256 inverted
-
-pub sBox-invSBox : (b : ℕ) → b < 256 → sBox (invSBox b) ≡ b
-unfolding invSBox
-sBox-invSBox = place-right sBox (λ b. b) 256 inverted
-
-pub invSBox-sBox : (b : ℕ) → b < 256 → invSBox (sBox b) ≡ b
-unfolding invSBox
-invSBox-sBox = place-only sBox (λ b. b) 256 inverted
 
 affine-fits : (b : ℕ) → b < 256 → affine b / 256 ≡ 0
 unfolding table fromBits affine

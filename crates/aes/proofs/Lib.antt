@@ -9,11 +9,10 @@ pub mod Columns
 pub mod Given
 pub mod Steps
 pub mod Undo
-pub mod RoundTrip
 pub mod Rounds
 pub mod Part
 pub mod Schedule
 pub mod Written
 pub mod PlainRun
-pub mod CallLaws
 pub mod Unique
+pub mod Replies

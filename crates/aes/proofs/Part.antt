@@ -27,6 +27,18 @@ holds-read n p xs i h lt = sym (getD-take (length p) xs i 0 lt) ∙ ap (λ (l : 
 abbrev pub back : List ℕ → ℕ → ℕ → List ℕ → List ℕ
 back xs a k ys = take a xs ++ (ys ++ drop k (drop a xs))
 
+-- the size of a buffer, which a part that comes back in its own size leaves
+pub record Room (n : ℕ) (xs : List ℕ) : Type 0 where
+  pub room : length xs ≡ n
+
+pub back-room : {n : ℕ} {xs ys t : List ℕ} (a k : ℕ) → Room n xs → ys ≡ t → length t ≡ k → a + k ≤ n → Room n (back xs a k ys)
+back-room {n} {xs} {ys} {t} a k r same lk le =
+    let size : length (take a xs) ≡ a = length-take-le a xs (omega (arith, r .room)) in
+    rw same (record { room = simp (length-append, length-drop, size, lk) (omega (arith, r .room)) })
+
+pub within : {e m n : ℕ} → m ≡ n → e ≤ n → e ≤ m
+within l le = rw l le
+
 -- the part from a to e, the next after p, is lent and comes back as q
 pub lent : (n a e : ℕ) (p q xs ys : List ℕ)
     → Holds n p xs → length p ≡ a → ys ≡ q → length q ≡ e - a → a ≤ e → e ≤ n → Holds n (p ++ q) (back xs a (e - a) ys)

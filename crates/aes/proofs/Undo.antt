@@ -1,4 +1,5 @@
--- Each transformation of a state of bytes gives one, is linear where a mask has to go through it, and is undone by its inverse.
+-- Each transformation of a state of bytes gives one, is linear where a mask has to go through it, and, but for SUBBYTES, is undone
+-- by its inverse.
 -- Assumes nothing.
 use mathlib.Core.Path.{_≡_, refl, sym, _∙_}
 use mathlib.Core.List.{List}
@@ -9,12 +10,13 @@ use lib.Dec.{lit<}
 use lib.ListN.{length, List·getD-eq-default}
 use Rattle.aes.specs.Byte.{_⊕_, table}
 use Rattle.aes.specs.Field.{xTimes, times, _•_}
-use Rattle.aes.specs.Box.{sBox, invSBox}
-use Rattle.aes.specs.State.{at, cell, ahead, behind, state, square, dot, turned, subBytes, invSubBytes, shiftRows, invShiftRows, mixColumns, invMixColumns, addRoundKey, Bytes}
+use Rattle.aes.specs.Box.{sBox}
+use Rattle.aes.specs.State.{at, cell, ahead, behind, state, square, dot, turned, subBytes, shiftRows, invShiftRows, mixColumns, invMixColumns, addRoundKey, Bytes}
+use Rattle.aes.specs.Key.{roundKey}
 use Rattle.aes.proofs.Xor.{sums, xor-byte}
 use Rattle.aes.proofs.Listed.{table-at}
 use Rattle.aes.proofs.Fill.{filled-all}
-use Rattle.aes.proofs.Boxes.{sBox-byte, invSBox-byte, sBox-invSBox, invSBox-sBox}
+use Rattle.aes.proofs.Boxes.{sBox-byte}
 use Rattle.aes.proofs.Columns.{dot-xor, dot-dot, dot-byte, dot-one}
 
 -- sixteen bytes are the state of them
@@ -44,9 +46,9 @@ pub sub-bytes : {s : List ℕ} → Bytes 16 s → Bytes 16 (subBytes s)
 unfolding subBytes
 sub-bytes {s} p = state-bytes (λ i. sBox (at s i)) (λ i. sBox-byte (at s i) (p .byte i))
 
-pub inv-sub-bytes : {s : List ℕ} → Bytes 16 s → Bytes 16 (invSubBytes s)
-unfolding invSubBytes
-inv-sub-bytes {s} p = state-bytes (λ i. invSBox (at s i)) (λ i. invSBox-byte (at s i) (p .byte i))
+pub key-bytes : (n : ℕ) (w : List ℕ) → Bytes n w → (r : ℕ) → Bytes 16 (roundKey w r)
+unfolding roundKey
+key-bytes n w h r = state-bytes (λ i. at w (16 * r + i)) (λ i. h .byte (16 * r + i))
 
 square-bytes : (f : ℕ → ℕ → ℕ) → ((r c : ℕ) → f r c < 256) → Bytes 16 (square f)
 square-bytes f h = state-bytes (λ i. f (i % 4) (i / 4)) (λ i. h (i % 4) (i / 4))
@@ -94,14 +96,6 @@ inv-shift-add a b = refl
 pub add-twice : {a : List ℕ} (b : List ℕ) → Bytes 16 a → addRoundKey (addRoundKey a b) b ≡ a
 unfolding addRoundKey
 add-twice {a} b h = simp sums (state-at a (h .size))
-
-pub inv-sub-sub : {s : List ℕ} → Bytes 16 s → invSubBytes (subBytes s) ≡ s
-unfolding subBytes invSubBytes
-inv-sub-sub {s} h = simp (invSBox-sBox, h .byte) (state-at s (h .size))
-
-pub sub-inv-sub : {s : List ℕ} → Bytes 16 s → subBytes (invSubBytes s) ≡ s
-unfolding subBytes invSubBytes
-sub-inv-sub {s} h = simp (sBox-invSBox, h .byte) (state-at s (h .size))
 
 pub inv-shift-shift : {s : List ℕ} → Bytes 16 s → invShiftRows (shiftRows s) ≡ s
 unfolding shiftRows invShiftRows

@@ -30,7 +30,7 @@ abbrev pub Unique :
 Unique {K} {Args} {Result} {Exit} Post =
     (κs : K) (args : Args κs) (exit : Exit κs) (x y : Result κs) → Post κs args x exit → Post κs args y exit → x ≡ y
 
-valued : (x y : Valued) (z : ℕ × ℕ) → (x .number, x .value) ≡ z → (y .number, y .value) ≡ z → x ≡ y
+pub valued : (x y : Valued) (z : ℕ × ℕ) → (x .number, x .value) ≡ z → (y .number, y .value) ≡ z → x ≡ y
 valued x y z p q =
     let e : _≡_ {A = ℕ × ℕ} (x .number, x .value) (y .number, y .value) = p ∙ sym q in
     λ i. record { number = e i .0; value = e i .1 }

@@ -5,8 +5,9 @@ use mathlib.Core.List.{List, [], _∷_, _++_, append-assoc, append-nil}
 use Prim.Native.Nat.{ℕ, zero, suc, _+_, _*_, _-_, _≤_, _<_}
 use native.Mathlib.Numerals.{add-one}
 use native.Mathlib.Omega.{arith}
+use lib.Dec.{lit≤}
 use lib.ListN.{length, length-append}
-use Rattle.aes.specs.Record.{Point, whole, wholes, run, last, bytes, Recorded}
+use Rattle.aes.specs.Record.{Point, block, whole, wholes, five, points, run, last, bytes, Recorded}
 use Rattle.aes.specs.Held.{Holds}
 use Rattle.aes.proofs.Part.{holds-none, holds-all, lent, back}
 
@@ -73,18 +74,52 @@ module _ {f : Point → List ℕ → List ℕ} (h : Sized f) {s : List ℕ} (l :
   written-all {n} {ps} {t} {xs} w e =
       record { end = w .state; held = holds-all n (bytes (run f s ps)) xs (w .held) (run-size f h ps s l ∙ e) }
 
-pub wholes-length : (n : ℕ) → length (wholes n) ≡ 5 * n
-unfolding wholes
-wholes-length zero = refl
-wholes-length (suc n) = simp (length-append, wholes-length n) (omega arith)
+-- the five parts of 80 bytes are lent one after the other
+pub written-five : {f : Point → List ℕ → List ℕ} → Sized f → (s : List ℕ) → length s ≡ 16 → (xs : List ℕ) → length xs ≡ 80 → (p q r u v : Point)
+    → {t1 t2 t3 t4 t5 y1 y2 y3 y4 y5 : List ℕ} → t1 ≡ f p s → y1 ≡ t1 → t2 ≡ f q t1 → y2 ≡ t2 → t3 ≡ f r t2 → y3 ≡ t3 → t4 ≡ f u t3 → y4 ≡ t4
+    → t5 ≡ f v t4 → y5 ≡ t5
+    → Recorded f s (p ∷ q ∷ r ∷ u ∷ v ∷ []) t5 (back (back (back (back (back xs 0 16 y1) 16 16 y2) 32 16 y3) 48 16 y4) 64 16 y5)
+written-five {f} h s l xs room p q r u v e1 k1 e2 k2 e3 k3 e4 k4 e5 k5 =
+    let h1 = written-step h l (written-none f s 80 xs room) p 0 16 refl refl (lit≤ tt) (lit≤ tt) e1 k1 in
+    let h2 = written-step h l h1 q 16 32 refl refl (lit≤ tt) (lit≤ tt) e2 k2 in
+    let h3 = written-step h l h2 r 32 48 refl refl (lit≤ tt) (lit≤ tt) e3 k3 in
+    let h4 = written-step h l h3 u 48 64 refl refl (lit≤ tt) (lit≤ tt) e4 k4 in
+    written-all h l (written-step h l h4 v 64 80 refl refl (lit≤ tt) (lit≤ tt) e5 k5) refl
 
 pub wholes-more : (n : ℕ) → wholes (n + 1) ≡ wholes n ++ whole n
 unfolding wholes
 wholes-more n = rw add-one
 
--- a whole round more, in the 80 bytes behind the r that are written
-pub written-round : {f : Point → List ℕ → List ℕ} → Sized f → {s t t′ xs ys : List ℕ} → length s ≡ 16 → (r : ℕ) → r < 13 → Written f s 1040 (wholes r) t xs
-    → Recorded f t (whole r) t′ ys → Written f s 1040 (wholes (r + 1)) t′ (back xs (80 * r) (80 * r + 80 - 80 * r) ys)
-written-round h l r lt w d =
-    rw wholes-more
-    (written-more h l w (whole r) (80 * r) (80 * r + 80) (rw (wholes-length r) (omega arith)) (omega arith) (omega arith) (omega arith) d)
+-- the points of the first n of fourteen rounds
+unfoldable pub turns : ℕ → List Point
+turns zero = []
+turns (suc n) = turns n ++ five n
+
+turns-all : block ∷ turns 14 ≡ points 14
+unfolding turns points wholes
+turns-all = refl
+
+turns-more : (n : ℕ) → turns (n + 1) ≡ turns n ++ five n
+unfolding turns
+turns-more n = rw add-one
+
+turns-length : (n : ℕ) → 16 * length (block ∷ turns n) ≡ 80 * n + 16
+unfolding turns
+turns-length zero = refl
+turns-length (suc n) = simp (length-append) (omega (arith, turns-length n))
+
+module _ {f : Point → List ℕ → List ℕ} (h : Sized f) {s : List ℕ} (l : length s ≡ 16) where
+  -- the block, a round more in the 80 bytes behind what is written, and all of them
+  pub written-block : {t ys : List ℕ} (xs : List ℕ) → length xs ≡ 1136 → t ≡ f block s → ys ≡ t → Written f s 1136 (block ∷ turns 0) t (back xs 0 16 ys)
+  unfolding turns
+  written-block xs room et ey = written-step h l (written-none f s 1136 xs room) block 0 16 refl refl (lit≤ tt) (lit≤ tt) et ey
+
+  pub written-round : {t t′ xs ys : List ℕ} (r : ℕ) → r < 14 → Written f s 1136 (block ∷ turns r) t xs → Recorded f t (five r) t′ ys
+      → Written f s 1136 (block ∷ turns (r + 1)) t′ (back xs (80 * r + 16) (80 * r + 16 + 80 - (80 * r + 16)) ys)
+  written-round r lt w d =
+      rw turns-more (written-more h l w (five r) (80 * r + 16) (80 * r + 16 + 80) (turns-length r) (omega arith) (omega arith) (omega arith) d)
+
+  pub written-rounds : {t xs : List ℕ} (n : ℕ) → n ≤ 14 → 14 ≤ n → Written f s 1136 (block ∷ turns n) t xs → xs ≡ bytes (run f s (points 14))
+  written-rounds n le ge w =
+      let e : n ≡ 14 = omega (arith, le, ge) in
+      written-all h l (rw (e, turns-all) at w) (sym (ap (λ (ps : List Point). 16 * length ps) turns-all) ∙ turns-length 14) .held

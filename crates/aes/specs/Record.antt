@@ -1,8 +1,10 @@
 -- The recorded points of a run, and the record of a plain one.
 -- Assumes nothing.
+use mathlib.Core.Bool.{cond}
 use mathlib.Core.List.{List, [], _∷_, _++_}
 use mathlib.Core.Path.{_≡_}
 use Prim.Native.Nat.{ℕ, zero, suc, _-_}
+use lib.Dec.{eqb}
 use Rattle.aes.specs.State.{subBytes, shiftRows, mixColumns, addRoundKey}
 use Rattle.aes.specs.Key.{roundKey}
 use Rattle.aes.specs.Cipher.{rounds, cipher}
@@ -27,6 +29,10 @@ wholes (suc n) = wholes n ++ whole n
 -- the points of a run of nr rounds: 71 for 14
 unfoldable pub points : ℕ → List Point
 points nr = (block ∷ wholes (nr - 1)) ++ final (nr - 1)
+
+-- the five points of round r of fourteen, whole or final
+abbrev pub five : ℕ → List Point
+five r = keyed r ∷ boxed r ∷ shifted r ∷ cond (eqb r 13) (closed r) (mixed r) ∷ cond (eqb r 13) (uncovered r) (compensated r) ∷ []
 
 -- the states of a run from s on, where f p makes the state at p from the one before; and the last of them
 unfoldable pub run : {P : Type 0} → (P → List ℕ → List ℕ) → List ℕ → List P → List (List ℕ)

@@ -51,9 +51,15 @@ abbrev pub isSheet : List ℕ → Check
 isSheet sheet = eqb (length sheet) 21 else 11
 
 -- the mark "MSK"
-abbrev pub isMarked : List ℕ → Check
-isMarked sheet = eqb (getD sheet 0 0) 0x4d && eqb (getD sheet 1 0) 0x53 && eqb (getD sheet 2 0) 0x4b else 12
+abbrev pub marked : List ℕ → Bool
+marked sheet = eqb (getD sheet 0 0) 0x4d && eqb (getD sheet 1 0) 0x53 && eqb (getD sheet 2 0) 0x4b
 
--- a version in two bytes, the higher first
+abbrev pub isMarked : List ℕ → Check
+isMarked sheet = marked sheet else 12
+
+-- the version in two bytes, the higher first
+abbrev pub version : List ℕ → ℕ
+version sheet = getD sheet 3 0 * 256 + getD sheet 4 0
+
 abbrev pub isVersion : List ℕ → Check
-isVersion sheet = eqb (getD sheet 3 0 * 256 + getD sheet 4 0) 1 else 13
+isVersion sheet = eqb (version sheet) 1 else 13

@@ -48,12 +48,12 @@ fn run(schedule: &[u8], input: &[u8], output: &mut [u8], back: bool) -> u8
     if output.len() != 16 {
         return reply::OUTPUT_LENGTH;
     }
+    let b = block(input);
     if back {
-        let t = decrypted(block(input), schedule);
+        let t = decrypted(b, schedule);
         put(t, output);
         return reply::DONE;
     }
-    let b = block(input);
     let c = encrypted(b, schedule);
     put(c, output);
     reply::DONE

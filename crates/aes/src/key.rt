@@ -77,8 +77,9 @@ fn temp(before: [u8; 4], i: usize, sbox: &[u8; 256], constants: &[u8; 7]) -> [u8
     ensures { λ r. ⌜ r ≡ temp before i ⌝ }
 {
     if i % 8 == 0 {
-        let t = sub_word([before[1], before[2], before[3], before[0]], sbox);
-        return [t[0] ^ constants[i / 8 - 1], t[1], t[2], t[3]];
+        let mut t = sub_word([before[1], before[2], before[3], before[0]], sbox);
+        t[0] ^= constants[i / 8 - 1];
+        return t;
     }
     if i % 8 == 4 {
         return sub_word(before, sbox);

@@ -1,13 +1,13 @@
 // The recorded plain run: the 71 states of an encryption, each written by the step that makes it to a part that is lent to it.
 ghost use mathlib.Core.Path.{_≡_};
 ghost use Prim.Native.Nat.{_<_};
-ghost use lib.ListN.{length};
+ghost use lib.ListN.{length, getD};
 ghost use Rattle.aes.specs.Byte.{table};
 ghost use Rattle.aes.specs.Field.{xTimes};
 ghost use Rattle.aes.specs.Box.{sBox};
 ghost use Rattle.aes.specs.State.{subBytes, shiftRows, mixColumns, addRoundKey};
 ghost use Rattle.aes.specs.Key.{roundKey};
-ghost use Rattle.aes.specs.Record.{whole, final, wholes, plain, plainRecord, bytes, Recorded};
+ghost use Rattle.aes.specs.Record.{block, five, plain, plainRecord, bytes, Recorded};
 ghost use Rattle.aes.specs.Calls.{recordPlainOf};
 use crate::reply;
 use crate::state::add;
@@ -32,44 +32,28 @@ pub fn record_plain(schedule: &[u8], input: &[u8], states: &mut [u8]) -> u8
     if states.len() != 1136 {
         return reply::RECORD_LENGTH;
     }
-    recorded(block(input), schedule, states);
+    let sbox = tables::sbox();
+    let doubles = tables::doubles();
+    recorded(block(input), schedule, &sbox, &doubles, states);
     reply::DONE
 }
 
-fn recorded(input: [u8; 16], w: &[u8], states: &mut [u8])
-    requires { ⌜ (length (now w) ≡ 240) × (length (now states) ≡ 1136) ⌝ }
+fn recorded(input: [u8; 16], w: &[u8], sbox: &[u8; 256], doubles: &[u8; 256], states: &mut [u8])
+    requires { ⌜ (length (now w) ≡ 240) × (now sbox ≡ table sBox 256) × (now doubles ≡ table xTimes 256) × (length (now states) ≡ 1136) ⌝ }
     ensures { λ _. ⌜ now (states .exit) ≡ bytes (plainRecord 14 (now (w .entry)) input) ⌝ }
 {
-    let sbox = tables::sbox();
-    let doubles = tables::doubles();
-    let s = keep(input, &mut states[0..16]);
-    let t = thirteen(s, w, &sbox, &doubles, &mut states[16..1056]);
-    last(t, w, &sbox, &mut states[1056..1136]);
-}
-
-// The whole rounds, 80 bytes to each.
-fn thirteen(
-    first: [u8; 16],
-    w: &[u8],
-    sbox: &[u8; 256],
-    doubles: &[u8; 256],
-    states: &mut [u8],
-) -> [u8; 16]
-    requires { ⌜ (length (now w) ≡ 240) × (now sbox ≡ table sBox 256) × (now doubles ≡ table xTimes 256) × (length (now states) ≡ 1040) ⌝ }
-    ensures { λ t. ⌜ Recorded (plain (now (w .entry))) first (wholes 13) t (now (states .exit)) ⌝ }
-{
-    let mut s = first;
+    let mut s = put(input, &mut states[0..16]);
     let mut r = 0;
-    while r < 13 {
-        let a = 80 * r;
+    while r < 14 {
+        let a = 80 * r + 16;
         let e = a + 80;
         let t = round(s, w, r, sbox, doubles, &mut states[a..e]);
         s = t;
         r += 1;
     }
-    s
 }
 
+// The five states of a round. The plain run has nothing to add at the fifth: the state is recorded as it is.
 fn round(
     s: [u8; 16],
     w: &[u8],
@@ -78,25 +62,25 @@ fn round(
     doubles: &[u8; 256],
     states: &mut [u8],
 ) -> [u8; 16]
-    requires { ⌜ (r < 15) × (length (now w) ≡ 240) × (now sbox ≡ table sBox 256) × (now doubles ≡ table xTimes 256) × (length (now states) ≡ 80) ⌝ }
-    ensures { λ t. ⌜ Recorded (plain (now (w .entry))) s (whole r) t (now (states .exit)) ⌝ }
+    requires { ⌜ (r < 14) × (length (now w) ≡ 240) × (now sbox ≡ table sBox 256) × (now doubles ≡ table xTimes 256) × (length (now states) ≡ 80) ⌝ }
+    ensures { λ t. ⌜ Recorded (plain (now (w .entry))) s (five r) t (now (states .exit)) ⌝ }
 {
     let t = key(s, w, r, &mut states[0..16]);
     let u = boxes(t, sbox, &mut states[16..32]);
     let v = shift(u, &mut states[32..48]);
-    let x = mix(v, doubles, &mut states[48..64]);
-    keep(x, &mut states[64..80])
+    let x = fourth(v, w, r, doubles, &mut states[48..64]);
+    put(x, &mut states[64..80])
 }
 
-fn last(s: [u8; 16], w: &[u8], sbox: &[u8; 256], states: &mut [u8]) -> [u8; 16]
-    requires { ⌜ (length (now w) ≡ 240) × (now sbox ≡ table sBox 256) × (length (now states) ≡ 80) ⌝ }
-    ensures { λ t. ⌜ Recorded (plain (now (w .entry))) s (final 13) t (now (states .exit)) ⌝ }
+// What comes after ShiftRows: MixColumns, or the last key.
+fn fourth(s: [u8; 16], w: &[u8], r: usize, doubles: &[u8; 256], part: &mut [u8]) -> [u8; 16]
+    requires { ⌜ (length (now w) ≡ 240) × (now doubles ≡ table xTimes 256) × (length (now part) ≡ 16) ⌝ }
+    ensures { λ t. ⌜ (t ≡ plain (now (w .entry)) (getD (five r) 3 block) s) × (now (part .exit) ≡ t) ⌝ }
 {
-    let t = key(s, w, 13, &mut states[0..16]);
-    let u = boxes(t, sbox, &mut states[16..32]);
-    let v = shift(u, &mut states[32..48]);
-    let x = key(v, w, 14, &mut states[48..64]);
-    keep(x, &mut states[64..80])
+    if r == 13 {
+        return key(s, w, 14, part);
+    }
+    mix(s, doubles, part)
 }
 
 // The steps: each gives the next state and writes it to the part that it was lent.
@@ -104,35 +88,26 @@ fn key(s: [u8; 16], w: &[u8], r: usize, part: &mut [u8]) -> [u8; 16]
     requires { ⌜ (r < 15) × (length (now w) ≡ 240) × (length (now part) ≡ 16) ⌝ }
     ensures { λ t. ⌜ (t ≡ addRoundKey s (roundKey (now (w .entry)) r)) × (now (part .exit) ≡ t) ⌝ }
 {
-    keep(add(s, round_key(w, r)), part)
+    put(add(s, round_key(w, r)), part)
 }
 
 fn boxes(s: [u8; 16], sbox: &[u8; 256], part: &mut [u8]) -> [u8; 16]
     requires { ⌜ (now sbox ≡ table sBox 256) × (length (now part) ≡ 16) ⌝ }
     ensures { λ t. ⌜ (t ≡ subBytes s) × (now (part .exit) ≡ t) ⌝ }
 {
-    keep(substitute(s, sbox), part)
+    put(substitute(s, sbox), part)
 }
 
 fn shift(s: [u8; 16], part: &mut [u8]) -> [u8; 16]
     requires { ⌜ length (now part) ≡ 16 ⌝ }
     ensures { λ t. ⌜ (t ≡ shiftRows s) × (now (part .exit) ≡ t) ⌝ }
 {
-    keep(shift_rows(s), part)
+    put(shift_rows(s), part)
 }
 
 fn mix(s: [u8; 16], doubles: &[u8; 256], part: &mut [u8]) -> [u8; 16]
     requires { ⌜ (now doubles ≡ table xTimes 256) × (length (now part) ≡ 16) ⌝ }
     ensures { λ t. ⌜ (t ≡ mixColumns s) × (now (part .exit) ≡ t) ⌝ }
 {
-    keep(mix_columns(s, doubles), part)
-}
-
-// The plain run has nothing to add here: the state is recorded as it is.
-fn keep(s: [u8; 16], part: &mut [u8]) -> [u8; 16]
-    requires { ⌜ length (now part) ≡ 16 ⌝ }
-    ensures { λ t. ⌜ (t ≡ s) × (now (part .exit) ≡ t) ⌝ }
-{
-    put(s, part);
-    s
+    put(mix_columns(s, doubles), part)
 }

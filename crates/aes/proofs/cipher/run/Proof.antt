@@ -26,33 +26,33 @@ returns-3 c =
 returns-4 : tie.Need-returns-4
 returns-4 c =
     let put = c .before .before in
-    let block = put .before .before .before in
-    let a = block .before .before .before .before .before .before .before .before .args in
+    let block = put .before .before .before .before in
+    let a = block .before .before .before .before .before .before .before .args in
     simp (
       eq-eqb (length (a .schedule .now)) 240 (search needs),
       eq-eqb (length (a .input .now)) 16 (search needs),
       eq-eqb (length (a .output .now)) 16 (search needs),
-      block .before .if4 .taken,
+      put .before .before .before .if4 .taken,
     )
     (ap (λ (l : List ℕ). (0, l))
-    (put .put .ensures ∙ put .before .before .decrypted .ensures ∙ ap (invCipher 14 (a .schedule .now)) (block .block .ensures)))
+    (put .put .ensures .1 ∙ put .put .ensures .0 ∙ put .before .before .decrypted .ensures ∙ ap (invCipher 14 (a .schedule .now)) (block .block .ensures)))
 
 returns-5 : tie.Need-returns-5
 returns-5 c =
     let put = c .before .before in
-    let block = put .before .before .before in
-    let a = block .before .before .before .before .before .before .before .before .args in
+    let block = put .before .before .before .before in
+    let a = block .before .before .before .before .before .before .before .args in
     simp (
       eq-eqb (length (a .schedule .now)) 240 (search needs),
       eq-eqb (length (a .input .now)) 16 (search needs),
       eq-eqb (length (a .output .now)) 16 (search needs),
-      block .before .if4 .left,
+      put .before .before .before .if4 .left,
     )
     (ap (λ (l : List ℕ). (0, l))
-    (put .put2 .ensures ∙ put .before .before .encrypted .ensures ∙ ap (cipher 14 (a .schedule .now)) (block .block2 .ensures)))
+    (put .put2 .ensures .1 ∙ put .put2 .ensures .0 ∙ put .before .before .encrypted .ensures ∙ ap (cipher 14 (a .schedule .now)) (block .block .ensures)))
 
 pub run-spec : {M : Type 1} → statement M
 run-spec =
     tie.close
     (tie.spec returns returns-2 returns-3 (λ c κs. search needs) (λ c κs. search needs) (λ c κs. search needs) (λ c. search needs) returns-4
-    (λ c κs. search needs) (λ c κs. search needs) (λ c κs. search needs) (λ c. search needs) returns-5)
+    (λ c κs. search needs) (λ c κs. search needs) (λ c. search needs) returns-5)

@@ -12,13 +12,13 @@ use Rattle.aes.proofs.record.boxes.Tie as tie
 
 returns : tie.Need-returns
 returns c =
-    let keep = c .before .before in
-    let sub = keep .before .before in
+    let put = c .before .before in
+    let sub = put .before .before in
     let start = sub .before .before in
     let s : List ℕ = start .args .s in (
-      keep .keep .ensures .0 ∙ sub .substitute .ensures ∙ ap (λ (t : List ℕ). substituted t s) (start .pre .0)
+      put .put .ensures .0 ∙ sub .substitute .ensures ∙ ap (λ (t : List ℕ). substituted t s) (start .pre .0)
           ∙ sub-lent s (array-bytes (start .good .0)),
-      keep .keep .ensures .1,
+      put .put .ensures .1,
     )
 
 pub boxes-spec : {M : Type 1} → statement M

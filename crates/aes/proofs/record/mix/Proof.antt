@@ -12,13 +12,13 @@ use Rattle.aes.proofs.record.mix.Tie as tie
 
 returns : tie.Need-returns
 returns c =
-    let keep = c .before .before in
-    let mix = keep .before .before in
+    let put = c .before .before in
+    let mix = put .before .before in
     let start = mix .before .before in
     let s : List ℕ = start .args .s in (
-      keep .keep .ensures .0 ∙ mix .mix-columns .ensures ∙ ap (λ (d : List ℕ). mixedBy d s) (start .pre .0)
+      put .put .ensures .0 ∙ mix .mix-columns .ensures ∙ ap (λ (d : List ℕ). mixedBy d s) (start .pre .0)
           ∙ mix-lent s (array-bytes (start .good .0)),
-      keep .keep .ensures .1,
+      put .put .ensures .1,
     )
 
 pub mix-spec : {M : Type 1} → statement M

@@ -1,37 +1,58 @@
--- The block, the whole rounds and the last one, one after the other.
+-- After r turns the block and the states of r rounds stand in the record.
 -- Assumes nothing.
-use mathlib.Core.List.{List}
-use mathlib.Core.Path.{_≡_, refl}
-use Prim.Native.Nat.{ℕ}
+use mathlib.Core.List.{List, _∷_}
+use mathlib.Core.Path.{_≡_, refl, ap, _∙_}
+use Prim.Native.Nat.{ℕ, _+_, _-_, _≤_, _<_}
+use native.Mathlib.Omega.{arith}
 use borrow.Author.Needs.{needs}
 use lib.Dec.{lit≤}
-use lib.ListN.{length, length-append}
-use Rattle.aes.specs.Record.{block, final, wholes, points, plain, plainRecord}
-use Rattle.aes.proofs.Written.{Sized, written-none, written-step, written-more, written-all, wholes-length}
+use lib.ListN.{length}
+use Rattle.aes.specs.Record.{block, plain, plainRecord, bytes}
+use Rattle.aes.proofs.Written.{Written, turns, written-block, written-round, written-rounds}
 use Rattle.aes.proofs.PlainRun.{plain-sized}
 use Rattle.aes.proofs.record.recorded.Statement.{statement}
 use Rattle.aes.proofs.record.recorded.Tie as tie
 
-returns : tie.Need-returns
-unfolding plain plainRecord points
+abbrev Inv-loop : tie.InvT-loop
+Inv-loop w sbox doubles states₀ s₀ r₀ states s r =
+    (r ≤ 14) × (length s₀ ≡ 16) × Written (plain w) s₀ 1136 (block ∷ turns r) s states
+
+abbrev μ-loop : tie.MeasureT-loop
+μ-loop w sbox doubles states₀ s₀ r₀ states s r = 14 - r
+
+begin : tie.Need-loop-holds Inv-loop μ-loop
+unfolding plain
+begin c =
+    let kept = c .before .before in
+    let start = kept .before .before .before .before in
+    let size : length (kept .put .result) ≡ 16 = ap length (kept .put .ensures .0) ∙ start .good .0 .1 .0 .1 in
+    (lit≤ tt, size, written-block (plain-sized (start .args .w .now)) size (start .args .states .now) (start .pre .3) refl (kept .put .ensures .1))
+
+next : {r : ℕ} → r < 14 → r + 1 ≤ 14
+next lt = omega (arith, lt)
+
+again : tie.Need-loop-again Inv-loop μ-loop
+again c =
+    let round = c .before .before in
+    let turn = round .before .before in
+    let l = turn .before .loop in
+    (next (turn .loop-test .taken), l .inv .1, written-round (plain-sized _) (l .inv .1) (l .r) (turn .loop-test .taken) (l .inv .2) (round .round .ensures))
+
+round-needs : tie.Need-round-requires Inv-loop μ-loop
+round-needs c κs =
+    let pre = c .before .before .before .before .before .before .before .before .before .pre in
+    (c .before .loop-test .taken, pre .0, pre .1, pre .2, search needs)
+
+returns : tie.Need-returns Inv-loop μ-loop
+unfolding plainRecord
 returns c =
-    let last = c .before .before in
-    let thirteen = last .before .before .before .before .before in
-    let keep = thirteen .before .before .before .before .before .before in
-    let start = keep .before .before .before .before .before .before in
-    let s : List ℕ = start .args .input in
-    let w : List ℕ = start .args .w .now in
-    let size : Sized (plain w) = plain-sized w in
-    let l : length s ≡ 16 = start .good .0 .1 .0 .1 in
-    let five : length (wholes 13) ≡ 65 = wholes-length 13 in
-    let h0 = written-none (plain w) s 1136 (start .args .states .now) (start .pre .1) in
-    let h1 = written-step size l h0 block 0 16 refl refl (lit≤ tt) (lit≤ tt) (keep .keep .ensures .0) (keep .keep .ensures .1) in
-    let h2 = written-more size l h1 (wholes 13) 16 1056 refl (rw five) (lit≤ tt) (lit≤ tt) (thirteen .thirteen .ensures) in
-    let h3 = written-more size l h2 (final 13) 1056 1136 (rw five) refl (lit≤ tt) (lit≤ tt) (last .last .ensures) in
-    written-all size l h3 (simp (length-append, five)) .held
+    let l = c .before .loop in
+    let kept = c .before .before .before .before in
+    let w : List ℕ = kept .before .before .before .before .args .w .now in
+    written-rounds (plain-sized w) (l .inv .1) (l .r) (l .inv .0) (c .loop-test .left) (l .inv .2)
+    ∙ ap (λ (s : List ℕ). bytes (plainRecord 14 w s)) (kept .put .ensures .0)
 
 pub recorded-spec : {M : Type 1} → statement M
 recorded-spec =
     tie.close
-    (tie.spec (λ c κs. search needs) (λ c κs. search needs) (λ c. search needs) (λ c. search needs) (λ c. search needs) (λ c κs. search needs) (λ c. search needs) (λ c. search needs)
-    (λ c. search needs) (λ c κs. search needs) (λ c. search needs) (λ c. search needs) (λ c. search needs) (λ c κs. search needs) (λ c. search needs) returns)
+    (tie.spec Inv-loop μ-loop (λ c. search needs) (λ c. search needs) (λ c. search needs) (λ c κs. search needs) begin (λ c. search needs) (λ c. search needs) (λ c. search needs) (λ c. search needs) (λ c. search needs) (λ c. search needs) round-needs (λ c. search needs) (λ c. search needs) again (λ c. search needs) returns)

@@ -6,4 +6,4 @@ use Rattle.aes.proofs.record.shift.Statement.{statement}
 use Rattle.aes.proofs.record.shift.Tie as tie
 
 pub shift-spec : {M : Type 1} → statement M
-shift-spec = tie.close (tie.spec (λ c κs. search needs) (λ c κs. search needs) (λ c. search needs) (λ c. (c .before .before .keep .ensures .0 ∙ c .before .before .before .before .shift-rows .ensures, c .before .before .keep .ensures .1)))
+shift-spec = tie.close (tie.spec (λ c κs. search needs) (λ c κs. search needs) (λ c. search needs) (λ c. (c .before .before .put .ensures .0 ∙ c .before .before .before .before .shift-rows .ensures, c .before .before .put .ensures .1)))
