@@ -1,39 +1,58 @@
 -- What the reply of a call's checks tells, and what a call that they let pass is lent.
 -- Assumes nothing.
-use mathlib.Core.Path.{_≡_, refl, subst}
-use mathlib.Core.Bool.{Bool, true, false, not, _&&_}
-use mathlib.Core.List.{List, [], _∷_}
-use Prim.Native.Nat.{ℕ, _+_, _*_}
+use mathlib.Core.Path.{_≡_, refl, ap}
+use mathlib.Core.Bool.{Bool, true, false, cond, not}
+use mathlib.Core.List.{List, [], _∷_, _++_}
+use Prim.Native.Nat.{ℕ, _+_, _*_, _≤_, _<_}
 use native.Mathlib.Nat.{zero-add}
 use native.Mathlib.Omega.{arith}
 use lib.Dec.{T, eqb, eqb→eq}
 use lib.ListN.{length}
 use mir.Facts.{and-yes}
-use Rattle.aes.specs.State.{at}
 use Rattle.aes.specs.Key.{roundKey}
-use Rattle.aes.specs.Reply.{Check, _else_, answer, isInput, isOutput, isMaskTable, isOffset, isForm}
+use Rattle.aes.specs.Reply.{Check, _else_, answer, isSchedule, isInput, isOutput, isMaskTable, isOffset, isForm}
 use Rattle.aes.proofs.Undo.{state-at}
+use Rattle.aes.proofs.Replies.{telling, nonzero}
 use Rattle.masked.specs.Calls.{checks, refusal}
 
--- no check of the list replies 0
-unfoldable pub telling : List Check → Bool
-telling [] = true
-telling ((holds else reply) ∷ cs) = not (eqb reply 0) && telling cs
-
-nonzero : (n : ℕ) → T (not (eqb n 0)) → n ≡ 0 → ⊥
-nonzero n t e = subst (λ (k : ℕ). T (not (eqb k 0))) e t
-
-module _ {A : Type 0} (before done : A) where
-  pub refused : (cs : List Check) → (refusal cs ≡ 0 → ⊥) → answer cs before done ≡ (refusal cs, before)
+-- checks that are told together, and what is checked after them
+module _ {A : Type 0} (before done : A) (more : List Check) where
+  pub refused : (cs : List Check) → (refusal cs ≡ 0 → ⊥) → answer (cs ++ more) before done ≡ (refusal cs, before)
   refused [] h = absurd (h refl)
   refused ((true else reply) ∷ cs) h = refused cs h
   refused ((false else reply) ∷ cs) h = refl
 
-  pub passed : (cs : List Check) → T (telling cs) → refusal cs ≡ 0 → answer cs before done ≡ (0, done)
+  pub passed : (cs : List Check) → T (telling cs) → refusal cs ≡ 0 → answer (cs ++ more) before done ≡ answer more before done
   unfolding telling
   passed [] t e = refl
   passed ((true else reply) ∷ cs) t e = passed cs (and-yes (not (eqb reply 0)) (telling cs) t .1) e
   passed ((false else reply) ∷ cs) t e = absurd (nonzero reply (and-yes (not (eqb reply 0)) (telling cs) t .0) e)
+
+-- a check that holds is as none, and so is one that was made before
+held : (n : ℕ) (cs ds : List Check) → refusal (cs ++ (true else n) ∷ ds) ≡ refusal (cs ++ ds)
+held n [] ds = refl
+held n ((b else m) ∷ cs) ds = ap (λ (r : ℕ). cond b r m) (held n cs ds)
+
+twice : (b : Bool) (m n : ℕ) (cs ds : List Check) → refusal ((b else m) ∷ (cs ++ (b else n) ∷ ds)) ≡ refusal ((b else m) ∷ (cs ++ ds))
+twice true m n cs ds = held n cs ds
+twice false m n cs ds = refl
+
+-- what is checked where no masks are lent, and the input stands for them
+abbrev pub publishedChecks : List ℕ → List ℕ → List ℕ → ℕ → ℕ → List Check
+publishedChecks schedule input output offset form =
+    isSchedule schedule ∷ isInput input ∷ isOutput output ∷ isOffset offset ∷ isForm form ∷ []
+
+pub published-refusal : (w b out : List ℕ) (o form : ℕ) → refusal (checks w b out b o form) ≡ refusal (publishedChecks w b out o form)
+published-refusal w b out o form =
+    ap (λ (r : ℕ). cond (eqb (length w) 240) r 2) (twice (eqb (length b) 16) 3 5 (isOutput out ∷ []) (isOffset o ∷ isForm form ∷ []))
+
+-- what a record checks before its own length, where no output is lent and the input stands for it
+abbrev pub recordChecks : List ℕ → List ℕ → List ℕ → ℕ → List Check
+recordChecks schedule input masks offset = isSchedule schedule ∷ isInput input ∷ isMaskTable masks ∷ isOffset offset ∷ []
+
+pub record-refusal : (w b M : List ℕ) (o : ℕ) → refusal (checks w b b M o 0) ≡ refusal (recordChecks w b M o)
+record-refusal w b M o =
+    ap (λ (r : ℕ). cond (eqb (length w) 240) r 2) (twice (eqb (length b) 16) 3 4 [] (isMaskTable M ∷ isOffset o ∷ []))
 
 -- the first check held, and the others go on
 holding : (b : Bool) (reply : ℕ) (cs : List Check) → T (not (eqb reply 0)) → refusal ((b else reply) ∷ cs) ≡ 0 → T b × (refusal cs ≡ 0)
@@ -67,3 +86,6 @@ sizes w b out M o form e =
 pub all-sixteen : (xs : List ℕ) → length xs ≡ 16 → roundKey xs 0 ≡ xs
 unfolding roundKey
 all-sixteen xs l = simp zero-add (state-at xs l)
+
+pub room : (xs : List ℕ) → length xs ≡ 16 → (0 < 16) × (16 * 0 + 16 ≤ length xs)
+room xs l = (omega arith, omega (arith, l))

@@ -1,43 +1,43 @@
 -- The steps over stored boxes and constants are those of the masked run, and how a run of them goes on.
 -- Assumes nothing.
 use mathlib.Core.Path.{_≡_, refl, sym, ap, _∙_}
-use mathlib.Core.Bool.{Bool, true, _&&_}
+use mathlib.Core.Bool.{Bool, true, false, cond, not, _&&_}
 use mathlib.Core.List.{List, [], _∷_, _++_}
-use Prim.Native.Nat.{ℕ, zero, suc, _+_, _*_, _%_, _<_}
+use Prim.Native.Nat.{ℕ, zero, suc, _+_, _-_, _*_, _/_, _%_, _<_}
 use native.Mathlib.Nat.{add-zero}
+use native.Mathlib.Numerals.{add-one}
 use native.Mathlib.Omega.{arith}
 use lib.Dec.{T, eqb, eqb→eq}
-use lib.ListN.{length}
-use mir.Facts.{and-yes}
+use lib.ListN.{length, length-append, getD}
+use mir.Facts.{and-yes, no-eqb}
 use Rattle.aes.specs.Byte.{_⊕_, table}
 use Rattle.aes.specs.Field.{xTimes}
 use Rattle.aes.specs.Box.{sBox}
-use Rattle.aes.specs.State.{at, state, shiftRows, mixColumns, addRoundKey, Bytes}
-use Rattle.aes.specs.Key.{roundKey}
+use Rattle.aes.specs.State.{at, shiftRows, addRoundKey, Bytes}
 use Rattle.aes.specs.Lent.{mixedBy}
-use Rattle.aes.specs.Record.{Point, block, keyed, boxed, shifted, mixed, compensated, closed, uncovered, whole, wholes, points, run, last}
+use Rattle.aes.specs.Record.{Point, block, keyed, boxed, shifted, mixed, compensated, closed, uncovered, final, wholes, five, points, run, last}
 use Rattle.aes.proofs.Xor.{xor-byte}
 use Rattle.aes.proofs.Listed.{table-same}
 use Rattle.aes.proofs.Boxes.{sBox-byte}
 use Rattle.aes.proofs.Steps.{mix-lent}
-use Rattle.aes.proofs.Undo.{state-bytes, add-bytes, shift-bytes, mix-bytes}
-use Rattle.aes.proofs.RoundTrip.{key-bytes}
-use Rattle.aes.proofs.Written.{Sized, run-append, last-append}
+use Rattle.aes.proofs.Undo.{state-bytes, add-bytes, key-bytes, shift-bytes, mix-bytes}
+use Rattle.aes.proofs.Part.{back}
+use Rattle.aes.proofs.Written.{Sized, Written, written-step, run-append, last-append}
 use Rattle.masked.specs.Mask.{_⊞_, maskByte, mask, maskedBox, maskedBoxes, compensation, allCompensations, ending}
 use Rattle.masked.specs.Run.{covered, maskedRecord}
-use Rattle.masked.specs.Lent.{boxedBy, steps}
+use Rattle.masked.specs.Lent.{boxedBy, steps, pointAfter}
 use Rattle.masked.proofs.Store.{box-at, compensation-at}
 
-pub steps-sized : (w b c d : List ℕ) (o : ℕ) (first end : List ℕ) → Sized (steps w b c d o first end)
+pub steps-sized : (w b c d : List ℕ) (o : ℕ) (end : List ℕ) → Sized (steps w b c d o end)
 unfolding steps addRoundKey boxedBy shiftRows mixedBy
-steps-sized w b c d o first end block s l = refl
-steps-sized w b c d o first end (keyed r) s l = refl
-steps-sized w b c d o first end (boxed r) s l = refl
-steps-sized w b c d o first end (shifted r) s l = refl
-steps-sized w b c d o first end (mixed r) s l = refl
-steps-sized w b c d o first end (compensated r) s l = refl
-steps-sized w b c d o first end (closed r) s l = refl
-steps-sized w b c d o first end (uncovered r) s l = refl
+steps-sized w b c d o end block s l = l
+steps-sized w b c d o end (keyed r) s l = refl
+steps-sized w b c d o end (boxed r) s l = refl
+steps-sized w b c d o end (shifted r) s l = refl
+steps-sized w b c d o end (mixed r) s l = refl
+steps-sized w b c d o end (compensated r) s l = refl
+steps-sized w b c d o end (closed r) s l = refl
+steps-sized w b c d o end (uncovered r) s l = refl
 
 -- where a run goes on from
 pub reached-more : (f : Point → List ℕ → List ℕ) (ps qs : List Point) (s t u : List ℕ)
@@ -45,6 +45,52 @@ pub reached-more : (f : Point → List ℕ → List ℕ) (ps qs : List Point) (s
 reached-more f ps qs s t u p q =
     q ∙ ap (λ (v : List ℕ). last v (run f v qs)) p
     ∙ sym (ap (last s) (run-append f ps qs s) ∙ last-append s (run f s ps) (run f (last s (run f s ps)) qs))
+
+run-first : (f : Point → List ℕ → List ℕ) (s : List ℕ) (p : Point) (ps : List Point) → run f s (p ∷ ps) ≡ f p s ∷ run f (f p s) ps
+unfolding run
+run-first f s p ps = refl
+
+-- behind a point the last state is of the run, whatever was there before it
+pub last-any : (f : Point → List ℕ → List ℕ) (s t u : List ℕ) (p : Point) (ps : List Point) → last s (run f u (p ∷ ps)) ≡ last t (run f u (p ∷ ps))
+unfolding run last
+last-any f s t u p ps = refl
+
+-- the points that come first after the covered block
+unfoldable pub after : ℕ → List Point
+after zero = []
+after (suc n) = after n ++ (pointAfter n ∷ [])
+
+-- which points these are, by the remainder of their number
+pub after-at : (n k : ℕ) → n % 5 ≡ k → pointAfter n ≡ getD (five (n / 5)) k block
+unfolding pointAfter
+after-at n k e = ap (λ (j : ℕ). getD (five (n / 5)) j block) e
+
+other : (b : Bool) (p q : Point) → T (not b) → cond b p q ≡ q
+other false p q t = refl
+
+pub not-last : (r : ℕ) (p q : Point) → (r ≡ 13 → ⊥) → cond (eqb r 13) p q ≡ q
+not-last r p q h = other (eqb r 13) p q (no-eqb h)
+
+pub after-all : block ∷ after 70 ≡ points 14
+unfolding after pointAfter points wholes
+after-all = refl
+
+after-more : (n : ℕ) → after (n + 1) ≡ after n ++ (pointAfter n ∷ [])
+unfolding after
+after-more n = rw add-one
+
+pub after-length : (n : ℕ) → 16 * length (block ∷ after n) ≡ 16 * n + 16
+unfolding after
+after-length zero = refl
+after-length (suc n) = simp (length-append) (omega (arith, after-length n))
+
+-- one state more, in the sixteen bytes behind those that are written
+pub after-written : {f : Point → List ℕ → List ℕ} → Sized f → {s t t′ xs ys : List ℕ} → length s ≡ 16 → (n : ℕ) → n < 70
+    → Written f s 1136 (block ∷ after n) t xs → t′ ≡ f (pointAfter n) t → ys ≡ t′
+    → Written f s 1136 (block ∷ after (n + 1)) t′ (back xs (16 * n + 16) (16 * n + 16 + 16 - (16 * n + 16)) ys)
+after-written size l n lt w et ey =
+    rw after-more
+    (written-step size l w (pointAfter n) (16 * n + 16) (16 * n + 16 + 16) (after-length n) (omega arith) (omega arith) (omega arith) et ey)
 
 -- labels are counted modulo 16
 mask-turn : (M : List ℕ) (o : ℕ) → mask M (o % 16) ≡ mask M o
@@ -93,11 +139,11 @@ module _ {M w : List ℕ} (hM : Bytes 16 M) (hw : Bytes 240 w) (form o : ℕ) wh
 
   -- the steps as a run of fourteen rounds has them
   abbrev lent : Point → List ℕ → List ℕ
-  lent = steps w (maskedBoxes M) (allCompensations M) (table xTimes 256) o (mask M ((o + 0) % 16)) (ending form (mask M ((o + 14) % 16)))
+  lent = steps w (maskedBoxes M) (allCompensations M) (table xTimes 256) o (ending form (mask M ((o + 14) % 16)))
 
-  -- such a run is uncovered after round 13 alone
+  -- behind the covered block, and uncovered after round 13 alone
   due : Point → Bool
-  due block = true
+  due block = false
   due (keyed r) = true
   due (boxed r) = true
   due (shifted r) = true
@@ -108,7 +154,6 @@ module _ {M w : List ℕ} (hM : Bytes 16 M) (hw : Bytes 240 w) (form o : ℕ) wh
 
   lent-is : (p : Point) → T (due p) → (s : List ℕ) → Bytes 16 s → lent p s ≡ covered form M o w p s
   unfolding due steps covered boxedBy table
-  lent-is block t s h = ap (λ (m : List ℕ). s ⊞ m) (mask-turn M (o + 0) ∙ rw add-zero)
   lent-is (keyed r) t s h = refl
   lent-is (boxed r) t s h =
       table-same (λ i. at (maskedBoxes M) (256 * (((o + r) % 16 + i) % 16) + at s i)) (λ i. maskedBox M (o + i + r) (at s i)) 16
@@ -123,6 +168,10 @@ module _ {M w : List ℕ} (hM : Bytes 16 M) (hw : Bytes 240 w) (form o : ℕ) wh
       let e : o + 14 ≡ o + suc r = ap (λ (k : ℕ). o + suc k) (sym (eqb→eq r 13 t)) in
       ap (λ (m : List ℕ). s ⊞ ending form m) (mask-turn M (o + 14) ∙ ap (mask M) e)
 
+  run-block : (s : List ℕ) (ps : List Point) → run lent s (block ∷ ps) ≡ s ∷ run lent s ps
+  unfolding run steps
+  run-block s ps = refl
+
   all-due : List Point → Bool
   all-due [] = true
   all-due (p ∷ ps) = due p && all-due ps
@@ -134,10 +183,14 @@ module _ {M w : List ℕ} (hM : Bytes 16 M) (hw : Bytes 240 w) (form o : ℕ) wh
       let d = and-yes (due p) (all-due ps) t in
       rw (lent-is p (d .0) s h) (ap (λ (u : List (List ℕ)). covered form M o w p s ∷ u) (run-is ps (d .1) (covered form M o w p s) (covered-bytes p h)))
 
-  -- what a run of the steps records, where it is lent the right tables
-  pub lent-record : {input : List ℕ} → Bytes 16 input → (b c d first end : List ℕ) → b ≡ maskedBoxes M → c ≡ allCompensations M
-      → d ≡ table xTimes 256 → first ≡ mask M ((o + 0) % 16) → end ≡ ending form (mask M ((o + 14) % 16))
-      → run (steps w b c d o first end) input (points 14) ≡ maskedRecord 14 form M o w input
-  unfolding maskedRecord points wholes all-due due
-  lent-record {input} h b c d first end eb ec ed ef ee =
-      (λ i. run (steps w (eb i) (ec i) (ed i) o (ef i) (ee i)) input (points 14)) ∙ run-is (points 14) tt input h
+  -- what a run of the steps records, where it is lent the right tables and starts from the covered block
+  pub lent-record : {input : List ℕ} → Bytes 16 input → (s b c d end : List ℕ) → s ≡ input ⊞ mask M ((o + 0) % 16) → b ≡ maskedBoxes M
+      → c ≡ allCompensations M → d ≡ table xTimes 256 → end ≡ ending form (mask M ((o + 14) % 16))
+      → run (steps w b c d o end) s (points 14) ≡ maskedRecord 14 form M o w input
+  unfolding maskedRecord points wholes all-due due covered
+  lent-record {input} h s b c d end es eb ec ed ee =
+      let start : s ≡ input ⊞ mask M o = es ∙ ap (λ (m : List ℕ). input ⊞ m) (mask-turn M (o + 0) ∙ rw add-zero) in
+      (λ i. run (steps w (eb i) (ec i) (ed i) o (ee i)) (start i) (points 14))
+      ∙ run-block (input ⊞ mask M o) (wholes 13 ++ final 13)
+      ∙ ap (λ (u : List (List ℕ)). (input ⊞ mask M o) ∷ u) (run-is (wholes 13 ++ final 13) tt (input ⊞ mask M o) (add-bytes h (mask-bytes o)))
+      ∙ sym (run-first (covered form M o w) input block (wholes 13 ++ final 13))

@@ -1,13 +1,7 @@
 pub mod Row
 pub mod Store
-pub mod Cover
-pub mod AnyMasks
-pub mod Relation
-pub mod Result
-pub mod Balancing
-pub mod RecordBytes
-pub mod RecordBalance
 pub mod Endings
 pub mod LentSteps
 pub mod Checked
+pub mod Headed
 pub mod Unique

@@ -2,18 +2,31 @@
 -- Assumes nothing.
 use mathlib.Core.Path.{_≡_, sym, _∙_}
 use mathlib.Core.List.{List, _++_}
-use Prim.Native.Nat.{ℕ, zero, suc, _+_, _*_, _≤_, _<_}
+use Prim.Native.Nat.{ℕ, zero, suc, _+_, _-_, _*_, _%_, _≤_, _<_}
 use native.Mathlib.Nat.{mul-suc, mul-zero}
 use native.Mathlib.Numerals.{add-one}
 use native.Mathlib.Omega.{arith}
 use native.Mathlib.Decide.{ℕ-discrete}
 use lib.ListN.{length, getD, length-append, List·getD-append}
 use lib.Seq.{getD-append-add}
+use Rattle.aes.specs.Held.{Holds}
+use Rattle.aes.proofs.Part.{back, lent}
 use Rattle.masked.specs.Mask.{inRow}
 
-pub row-more : (f : ℕ → List ℕ) (n : ℕ) → inRow f (n + 1) ≡ inRow f n ++ f n
+row-more : (f : ℕ → List ℕ) (n : ℕ) → inRow f (n + 1) ≡ inRow f n ++ f n
 unfolding inRow
 row-more f n = rw add-one
+
+-- where a loop goes on, and where it has ended
+pub one-more : {n k : ℕ} → n < k → n + 1 ≤ k
+one-more lt = omega (arith, lt)
+
+pub ended : {n k : ℕ} → n ≤ k → k ≤ n → n ≡ k
+ended le ge = omega (arith, le, ge)
+
+-- a row of sixteen as a loop fills it, by labels that follow one another
+pub row-label : (l n : ℕ) → l ≡ n % 16 → (l + 1) % 16 ≡ (n + 1) % 16
+row-label l n e = omega (arith, e)
 
 module _ (f : ℕ → List ℕ) (k : ℕ) (h : (j : ℕ) → length (f j) ≡ k) where
   pub row-size : (n : ℕ) → length (inRow f n) ≡ k * n
@@ -42,3 +55,9 @@ module _ (f : ℕ → List ℕ) (k : ℕ) (h : (j : ℕ) → length (f j) ≡ k)
   -- entry x of table j
   pub row-at : (n j x : ℕ) → j < n → x < k → getD (inRow f n) (k * j + x) 0 ≡ getD (f j) x 0
   row-at n j x lt hx = rw (← row-size j) (after n j x lt hx)
+
+  -- one table more, lent its part
+  pub row-lent : (n total : ℕ) (xs ys : List ℕ) → k * n + k ≤ total → Holds total (inRow f n) xs → ys ≡ f n
+      → Holds total (inRow f (n + 1)) (back xs (k * n) (k * n + k - k * n) ys)
+  row-lent n total xs ys room held same =
+      rw (row-more f n) (lent total (k * n) (k * n + k) (inRow f n) (f n) xs ys held (row-size n) same (h n ∙ omega arith) (omega arith) room)

@@ -1,5 +1,5 @@
 pub mod Mask
 pub mod Run
 pub mod Lent
-pub mod Balance
 pub mod Calls
+pub mod Sheet

@@ -1,6 +1,6 @@
--- The masked run: what it does to the covered state at each recorded point, and which mask lies there.
+-- The masked run: what it does to the covered state at each recorded point.
 -- Assumes nothing.
-use mathlib.Core.List.{List, [], _∷_}
+use mathlib.Core.List.{List}
 use Prim.Native.Nat.{ℕ, suc, _+_}
 use Rattle.aes.specs.State.{at, state, shiftRows, mixColumns}
 use Rattle.aes.specs.Key.{roundKey}
@@ -24,24 +24,3 @@ maskedRecord nr form M o w input = run (covered form M o w) input (points nr)
 
 unfoldable pub maskedCipher : ℕ → ℕ → List ℕ → ℕ → List ℕ → List ℕ → List ℕ
 maskedCipher nr form M o w input = last input (maskedRecord nr form M o w input)
-
--- no mask at all
-abbrev pub bare : List ℕ
-bare = state (λ i. 0)
-
--- the mask that lies on the state at each point of a run in form 0
-unfoldable pub maskAt : List ℕ → ℕ → Point → List ℕ
-maskAt M o block = mask M o
-maskAt M o (keyed r) = mask M (o + r)
-maskAt M o (boxed r) = mask M (o + r + 1)
-maskAt M o (shifted r) = shiftRows (mask M (o + r + 1))
-maskAt M o (mixed r) = mixColumns (shiftRows (mask M (o + r + 1)))
-maskAt M o (compensated r) = mask M (o + r + 1)
-maskAt M o (closed r) = shiftRows (mask M (o + r + 1))
-maskAt M o (uncovered r) = bare
-
--- two records, state by state
-unfoldable pub summed : List (List ℕ) → List (List ℕ) → List (List ℕ)
-summed [] v = []
-summed (s ∷ u) [] = []
-summed (s ∷ u) (t ∷ v) = s ⊞ t ∷ summed u v

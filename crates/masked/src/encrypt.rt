@@ -1,10 +1,6 @@
 // Masked encryption of one block: with the published masks, from the stored boxes, and with any sixteen masks.
 ghost use mathlib.Core.Path.{_≡_};
-ghost use lib.ListN.{length};
-ghost use Rattle.masked.specs.Mask.{published};
-ghost use Rattle.masked.specs.Run.{maskedCipher};
 ghost use Rattle.masked.specs.Calls.{encryptPublishedOf, encryptMaskedOf, checks, refusal};
-use crate::blocks::keep;
 use crate::blocks::sixteen;
 use crate::boxes;
 use crate::masks;
@@ -21,16 +17,28 @@ pub fn encrypt_published(
 ) -> u8
     ensures { λ r. ⌜ (r, now (output .exit)) ≡ encryptPublishedOf (now (schedule .entry)) (now (input .entry)) (now (output .entry)) offset form ⌝ }
 {
-    let masks = masks::published();
-    let refusal = refusal(schedule, input, output, &masks, offset, form);
+    // No masks are lent: the input, of which the same length is asked, stands for them.
+    let refusal = refusal(schedule, input, output, input, offset, form);
     if refusal != reply::DONE {
         return refusal;
     }
-    by_stored_boxes(schedule, input, output, offset, form);
+    let masks = masks::published();
+    let boxes = boxes::stored();
+    let compensations = masks::stored_compensations();
+    unrecorded(
+        input,
+        schedule,
+        masks,
+        &boxes,
+        &compensations,
+        offset,
+        form,
+        output,
+    );
     reply::DONE
 }
 
-// The same over sixteen lent masks.
+// The same over sixteen lent masks, whose tables are worked out before the block is read.
 pub fn encrypt_masked(
     schedule: &[u8],
     input: &[u8],
@@ -45,58 +53,31 @@ pub fn encrypt_masked(
     if refusal != reply::DONE {
         return refusal;
     }
-    by_made_boxes(schedule, input, output, masks, offset, form);
-    reply::DONE
-}
-
-// Past the checks: from stored tables, and from tables that are worked out before the block is read.
-fn by_stored_boxes(schedule: &[u8], input: &[u8], output: &mut [u8], offset: u8, form: u8)
-    requires { ⌜ (length (now schedule) ≡ 240) × (length (now input) ≡ 16) × (length (now output) ≡ 16) ⌝ }
-    ensures { λ _. ⌜ now (output .exit) ≡ maskedCipher 14 form published offset (now (schedule .entry)) (now (input .entry)) ⌝ }
-{
-    let masks = masks::published();
-    let boxes = boxes::stored();
-    let compensations = masks::stored_compensations();
-    let c = unrecorded(
-        sixteen(input, 0),
-        schedule,
-        masks,
-        &boxes,
-        &compensations,
-        offset,
-        form,
-    );
-    keep(c, output);
-}
-
-fn by_made_boxes(
-    schedule: &[u8],
-    input: &[u8],
-    output: &mut [u8],
-    masks: &[u8],
-    offset: u8,
-    form: u8,
-)
-    requires { ⌜ (length (now schedule) ≡ 240) × (length (now input) ≡ 16) × (length (now output) ≡ 16) × (length (now masks) ≡ 16) ⌝ }
-    ensures { λ _. ⌜ now (output .exit) ≡ maskedCipher 14 form (now (masks .entry)) offset (now (schedule .entry)) (now (input .entry)) ⌝ }
-{
     let table = sixteen(masks, 0);
     let boxes = boxes::made(table);
     let compensations = masks::compensations(table);
-    let c = unrecorded(
-        sixteen(input, 0),
+    unrecorded(
+        input,
         schedule,
         table,
         &boxes,
         &compensations,
         offset,
         form,
+        output,
     );
-    keep(c, output);
+    reply::DONE
 }
 
 // The number of the first check that fails, in their order.
-fn refusal(schedule: &[u8], input: &[u8], output: &[u8], masks: &[u8], offset: u8, form: u8) -> u8
+pub(crate) fn refusal(
+    schedule: &[u8],
+    input: &[u8],
+    output: &[u8],
+    masks: &[u8],
+    offset: u8,
+    form: u8,
+) -> u8
     ensures { λ r. ⌜ r ≡ refusal (checks (now (schedule .entry)) (now (input .entry)) (now (output .entry)) (now (masks .entry)) offset form) ⌝ }
 {
     if schedule.len() != 240 {

@@ -1,4 +1,4 @@
-// The upper crate: masks and masked runs. The module's engine.
+// The upper crate: masks, masked runs and the mask sheet. The module's engine.
 mod blocks;
 mod boxes;
 mod encrypt;
@@ -6,8 +6,11 @@ mod label;
 mod masks;
 mod record;
 mod run;
+mod sheet;
 mod steps;
 
 pub use encrypt::encrypt_masked;
 pub use encrypt::encrypt_published;
 pub use record::record_masked;
+pub use sheet::read_sheet;
+pub use sheet::write_sheet;

@@ -3,6 +3,7 @@ ghost use mathlib.Core.Path.{_≡_};
 ghost use Rattle.masked.specs.Calls.{recordMaskedOf};
 use crate::blocks::sixteen;
 use crate::boxes;
+use crate::encrypt::refusal;
 use crate::masks;
 use crate::run::recorded;
 use aes::reply;
@@ -17,17 +18,10 @@ pub fn record_masked(
 ) -> u8
     ensures { λ r. ⌜ (r, now (states .exit)) ≡ recordMaskedOf (now (schedule .entry)) (now (input .entry)) (now (masks .entry)) offset (now (states .entry)) ⌝ }
 {
-    if schedule.len() != 240 {
-        return reply::SCHEDULE_LENGTH;
-    }
-    if input.len() != 16 {
-        return reply::INPUT_LENGTH;
-    }
-    if masks.len() != 16 {
-        return reply::MASKS_LENGTH;
-    }
-    if 15 < offset {
-        return reply::OFFSET_RANGE;
+    // No output is lent: the input, of which the same length is asked, stands for it.
+    let refusal = refusal(schedule, input, input, masks, offset, 0);
+    if refusal != reply::DONE {
+        return refusal;
     }
     if states.len() != 1136 {
         return reply::RECORD_LENGTH;
@@ -36,7 +30,7 @@ pub fn record_masked(
     let boxes = boxes::made(table);
     let compensations = masks::compensations(table);
     recorded(
-        sixteen(input, 0),
+        input,
         schedule,
         table,
         &boxes,

@@ -1,12 +1,16 @@
 // Masked runs, made of the steps alone: recorded, where each step is lent its part of the record, and unrecorded, where it is lent
 // a scratch.
 ghost use mathlib.Core.Path.{_≡_};
-ghost use Prim.Native.Nat.{_<_};
+ghost use Prim.Native.Nat.{suc, _+_, _%_, _<_};
 ghost use lib.ListN.{length};
-ghost use Rattle.aes.specs.Record.{whole, final, wholes, bytes};
-ghost use Rattle.masked.specs.Mask.{maskedBoxes, allCompensations};
+ghost use Rattle.aes.specs.State.{shiftRows};
+ghost use Rattle.aes.specs.Key.{roundKey};
+ghost use Rattle.aes.specs.Lent.{mixedBy};
+ghost use Rattle.aes.specs.Record.{bytes};
+ghost use Rattle.masked.specs.Mask.{_⊞_, mask, maskedBoxes, allCompensations};
 ghost use Rattle.masked.specs.Run.{maskedRecord, maskedCipher};
-ghost use Rattle.masked.specs.Lent.{RecordedRounds, RecordedLast, ReachedRound};
+ghost use Rattle.masked.specs.Lent.{boxedBy, steps, pointAfter};
+use crate::blocks::sixteen;
 use crate::label::Label;
 use crate::label::Round;
 use crate::masks::ending;
@@ -22,7 +26,7 @@ use aes::tables;
 
 // The 71 states, in form 0.
 pub(crate) fn recorded(
-    input: [u8; 16],
+    input: &[u8],
     w: &[u8],
     masks: [u8; 16],
     boxes: &[u8; 4096],
@@ -30,159 +34,136 @@ pub(crate) fn recorded(
     offset: u8,
     states: &mut [u8],
 )
-    requires { ⌜ (length (now w) ≡ 240) × (now boxes ≡ maskedBoxes masks) × (now compensations ≡ allCompensations masks) × (length (now states) ≡ 1136) ⌝ }
-    ensures { λ _. ⌜ now (states .exit) ≡ bytes (maskedRecord 14 0 masks offset (now (w .entry)) input) ⌝ }
+    requires { ⌜ (length (now input) ≡ 16) × (length (now w) ≡ 240) × (now boxes ≡ maskedBoxes masks) × (now compensations ≡ allCompensations masks) × (length (now states) ≡ 1136) ⌝ }
+    ensures { λ _. ⌜ now (states .exit) ≡ bytes (maskedRecord 14 0 masks offset (now (w .entry)) (now (input .entry))) ⌝ }
 {
     let doubles = tables::doubles();
-    let first = mask(masks, Label::make(offset, Round::FIRST));
-    let end = ending(0, mask(masks, Label::make(offset, Round::END)));
-    let s = cover(input, first, &mut states[0..16]);
-    let t = thirteen(
-        s,
-        w,
-        boxes,
-        compensations,
-        &doubles,
-        offset,
-        &mut states[16..1056],
-    );
-    last(t, w, boxes, offset, end, &mut states[1056..1136]);
-}
-
-// The finished block alone, in either form.
-pub(crate) fn unrecorded(
-    input: [u8; 16],
-    w: &[u8],
-    masks: [u8; 16],
-    boxes: &[u8; 4096],
-    compensations: &[u8; 256],
-    offset: u8,
-    form: u8,
-) -> [u8; 16]
-    requires { ⌜ (length (now w) ≡ 240) × (now boxes ≡ maskedBoxes masks) × (now compensations ≡ allCompensations masks) ⌝ }
-    ensures { λ r. ⌜ r ≡ maskedCipher 14 form masks offset (now (w .entry)) input ⌝ }
-{
-    let doubles = tables::doubles();
-    let first = mask(masks, Label::make(offset, Round::FIRST));
-    let end = ending(form, mask(masks, Label::make(offset, Round::END)));
-    let mut scratch = [0u8; 80];
-    let mut s = cover(input, first, &mut scratch[0..16]);
-    let mut r = 0;
-    while r < 13 {
-        let t = unrecorded_round(
+    let end = ending(0, masks, offset);
+    let mut s = covered(input, masks, offset, &mut states[0..16]);
+    let mut n = 0;
+    while n < 70 {
+        let a = 16 * n + 16;
+        let e = a + 16;
+        let t = point(
             s,
             w,
             boxes,
             compensations,
             &doubles,
             offset,
-            Round::number(r),
-        );
-        s = t;
-        r += 1;
-    }
-    last(s, w, boxes, offset, end, &mut scratch)
-}
-
-// The whole rounds, 80 bytes to each.
-fn thirteen(
-    first: [u8; 16],
-    w: &[u8],
-    boxes: &[u8; 4096],
-    compensations: &[u8; 256],
-    doubles: &[u8; 256],
-    offset: u8,
-    states: &mut [u8],
-) -> [u8; 16]
-    requires { ⌜ (length (now w) ≡ 240) × (length (now states) ≡ 1040) ⌝ }
-    ensures { λ t. ⌜ RecordedRounds (now (w .entry)) (now (boxes .entry)) (now (compensations .entry)) (now (doubles .entry)) offset first (wholes 13) t (now (states .exit)) ⌝ }
-{
-    let mut s = first;
-    let mut n = 0;
-    while n < 13 {
-        let a = 80 * n;
-        let e = a + 80;
-        let t = recorded_round(
-            s,
-            w,
-            boxes,
-            compensations,
-            doubles,
-            offset,
-            Round::number(n),
+            end,
+            n,
             &mut states[a..e],
         );
         s = t;
         n += 1;
     }
-    s
 }
 
-fn recorded_round(
+// The finished block alone, in either form. The first step and the last two are lent the output.
+pub(crate) fn unrecorded(
+    input: &[u8],
+    w: &[u8],
+    masks: [u8; 16],
+    boxes: &[u8; 4096],
+    compensations: &[u8; 256],
+    offset: u8,
+    form: u8,
+    output: &mut [u8],
+)
+    requires { ⌜ (length (now input) ≡ 16) × (length (now w) ≡ 240) × (now boxes ≡ maskedBoxes masks) × (now compensations ≡ allCompensations masks) × (length (now output) ≡ 16) ⌝ }
+    ensures { λ _. ⌜ now (output .exit) ≡ maskedCipher 14 form masks offset (now (w .entry)) (now (input .entry)) ⌝ }
+{
+    let doubles = tables::doubles();
+    let end = ending(form, masks, offset);
+    let mut s = covered(input, masks, offset, output);
+    let mut r = 0;
+    while r < 14 {
+        let t = half(s, w, boxes, offset, Round::number(r));
+        if r == 13 {
+            let u = add_key(t, w, Round::END, output);
+            uncover(u, end, output);
+            return;
+        }
+        let u = rest(t, compensations, &doubles, offset, Round::number(r));
+        s = u;
+        r += 1;
+    }
+}
+
+// The block under the first mask.
+fn covered(input: &[u8], masks: [u8; 16], offset: u8, part: &mut [u8]) -> [u8; 16]
+    requires { ⌜ (length (now input) ≡ 16) × (length (now part) ≡ 16) ⌝ }
+    ensures { λ t. ⌜ (t ≡ now (input .entry) ⊞ mask masks ((offset + 0) % 16)) × (now (part .exit) ≡ t) ⌝ }
+{
+    cover(
+        sixteen(input, 0),
+        mask(masks, Label::make(offset, Round::FIRST)),
+        part,
+    )
+}
+
+// The step at point n after the covered block, five to a round; the last round is closed and uncovered.
+fn point(
     s: [u8; 16],
     w: &[u8],
     lent: &[u8; 4096],
     compensations: &[u8; 256],
     doubles: &[u8; 256],
-    offset: u8,
-    r: Round,
-    states: &mut [u8],
-) -> [u8; 16]
-    requires { ⌜ (r .0 < 13) × (length (now w) ≡ 240) × (length (now states) ≡ 80) ⌝ }
-    ensures { λ t. ⌜ RecordedRounds (now (w .entry)) (now (lent .entry)) (now (compensations .entry)) (now (doubles .entry)) offset s (whole (r .0)) t (now (states .exit)) ⌝ }
-{
-    let l = Label::make(offset, r);
-    let m = l.next();
-    let t = add_key(s, w, r, &mut states[0..16]);
-    let u = boxes(t, lent, l, &mut states[16..32]);
-    let v = shift_rows(u, &mut states[32..48]);
-    let x = mix_columns(v, doubles, &mut states[48..64]);
-    compensate(x, compensations, m, &mut states[64..80])
-}
-
-// The same steps where nothing is recorded. It is apart from the recorded round so that the compiler sees that what the steps
-// write here is never read.
-fn unrecorded_round(
-    s: [u8; 16],
-    w: &[u8],
-    lent: &[u8; 4096],
-    compensations: &[u8; 256],
-    doubles: &[u8; 256],
-    offset: u8,
-    r: Round,
-) -> [u8; 16]
-    requires { ⌜ (r .0 < 13) × (length (now w) ≡ 240) ⌝ }
-    ensures { λ t. ⌜ ReachedRound (now (w .entry)) (now (lent .entry)) (now (compensations .entry)) (now (doubles .entry)) offset s (r .0) t ⌝ }
-{
-    let l = Label::make(offset, r);
-    let m = l.next();
-    let mut part = [0u8; 16];
-    let t = add_key(s, w, r, &mut part);
-    let u = boxes(t, lent, l, &mut part);
-    let v = shift_rows(u, &mut part);
-    let x = mix_columns(v, doubles, &mut part);
-    compensate(x, compensations, m, &mut part)
-}
-
-fn last(
-    s: [u8; 16],
-    w: &[u8],
-    lent: &[u8; 4096],
     offset: u8,
     end: [u8; 16],
-    states: &mut [u8],
+    n: usize,
+    part: &mut [u8],
 ) -> [u8; 16]
-    requires { ⌜ (length (now w) ≡ 240) × (length (now states) ≡ 80) ⌝ }
-    ensures { λ t. ⌜ RecordedLast (now (w .entry)) (now (lent .entry)) offset end s (final 13) t (now (states .exit)) ⌝ }
+    requires { ⌜ (n < 70) × (length (now w) ≡ 240) × (length (now part) ≡ 16) ⌝ }
+    ensures { λ t. ⌜ (t ≡ steps (now (w .entry)) (now (lent .entry)) (now (compensations .entry)) (now (doubles .entry)) offset end (pointAfter n) s) × (now (part .exit) ≡ t) ⌝ }
 {
-    let t = add_key(s, w, Round::LAST, &mut states[0..16]);
-    let u = boxes(
-        t,
-        lent,
-        Label::make(offset, Round::LAST),
-        &mut states[16..32],
-    );
-    let v = shift_rows(u, &mut states[32..48]);
-    let x = add_key(v, w, Round::END, &mut states[48..64]);
-    uncover(x, end, &mut states[64..80])
+    let r = Round::number(n / 5);
+    let l = Label::make(offset, r);
+    let m = l.next();
+    match n % 5 {
+        0 => add_key(s, w, r, part),
+        1 => boxes(s, lent, l, part),
+        2 => shift_rows(s, part),
+        3 => {
+            if n == 68 {
+                return add_key(s, w, Round::END, part);
+            }
+            mix_columns(s, doubles, part)
+        }
+        _ => {
+            if n == 69 {
+                return uncover(s, end, part);
+            }
+            compensate(s, compensations, m, part)
+        }
+    }
+}
+
+// What every round begins with, where nothing is recorded: key, boxes and ShiftRows. It has one caller, and is apart from the
+// recorded points, so that the compiler sees that what the steps write here is never read.
+fn half(s: [u8; 16], w: &[u8], lent: &[u8; 4096], offset: u8, r: Round) -> [u8; 16]
+    requires { ⌜ (r .0 < 14) × (length (now w) ≡ 240) ⌝ }
+    ensures { λ t. ⌜ t ≡ shiftRows (boxedBy (now (lent .entry)) ((offset + r .0) % 16) (s ⊞ roundKey (now (w .entry)) (r .0))) ⌝ }
+{
+    let mut part = [0u8; 16];
+    let t = add_key(s, w, r, &mut part);
+    let u = boxes(t, lent, Label::make(offset, r), &mut part);
+    shift_rows(u, &mut part)
+}
+
+// What a whole round ends with: MixColumns and compensation.
+fn rest(
+    s: [u8; 16],
+    compensations: &[u8; 256],
+    doubles: &[u8; 256],
+    offset: u8,
+    r: Round,
+) -> [u8; 16]
+    requires { ⌜ r .0 < 13 ⌝ }
+    ensures { λ t. ⌜ t ≡ mixedBy (now (doubles .entry)) s ⊞ roundKey (now (compensations .entry)) ((offset + suc (r .0)) % 16) ⌝ }
+{
+    let mut part = [0u8; 16];
+    let t = mix_columns(s, doubles, &mut part);
+    compensate(t, compensations, Label::make(offset, r).next(), &mut part)
 }

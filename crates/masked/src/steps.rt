@@ -1,7 +1,7 @@
 // The steps of every masked run, one for each kind of recorded point; both keys of the last round are added by one. Each takes a
 // state as it is covered, gives the next and writes it to the part that it was lent. `cover` alone takes the bare block.
 ghost use mathlib.Core.Path.{_≡_};
-ghost use Prim.Native.Nat.{_+_, _*_, _%_, _≤_, _<_};
+ghost use Prim.Native.Nat.{_+_, _<_};
 ghost use lib.ListN.{length};
 ghost use Rattle.aes.specs.State.{shiftRows};
 ghost use Rattle.aes.specs.Key.{roundKey};

@@ -1,19 +1,20 @@
 -- After n turns the boxes of n labels stand in the array.
 -- Assumes nothing.
 use mathlib.Core.List.{List}
-use mathlib.Core.Path.{_≡_, _∙_}
-use Prim.Native.Nat.{ℕ, _+_, _-_, _*_, _%_, _≤_}
+use mathlib.Core.Path.{_≡_, refl, _∙_}
+use Prim.Native.Nat.{ℕ, _+_, _-_, _*_, _%_, _≤_, _<_}
 use native.Mathlib.Omega.{arith}
 use borrow.Author.Needs.{needs}
+use lib.Dec.{lit≤}
 use lib.ListN.{length}
 use Rattle.aes.specs.Byte.{_⊕_, table}
 use Rattle.aes.specs.Box.{sBox}
 use Rattle.aes.specs.State.{at}
 use Rattle.aes.specs.Held.{Holds}
 use Rattle.aes.proofs.Listed.{table-length}
-use Rattle.aes.proofs.Part.{holds-none, holds-all, lent}
+use Rattle.aes.proofs.Part.{holds-none, holds-all}
 use Rattle.masked.specs.Mask.{inRow, maskedBox, maskedBoxes}
-use Rattle.masked.proofs.Row.{row-more, row-size}
+use Rattle.masked.proofs.Row.{one-more, ended, row-label, row-size, row-lent}
 use Rattle.masked.proofs.boxes.made.Statement.{statement}
 use Rattle.masked.proofs.boxes.made.Tie as tie
 
@@ -31,7 +32,13 @@ abbrev μ-loop : tie.MeasureT-loop
 
 begin : tie.Need-loop-holds Inv-loop μ-loop
 unfolding inRow
-begin c = (search needs, search needs, holds-none 4096 _ (search needs))
+begin c = (lit≤ tt, refl, holds-none 4096 _ refl)
+
+fill-given : tie.Need-fill-requires Inv-loop μ-loop
+fill-given c κs = (c .before .before .before .before .before .before .before .sbox .ensures, search needs)
+
+room : (n : ℕ) → n < 16 → 256 * n + 256 ≤ 4096
+room n lt = omega (arith, lt)
 
 again : tie.Need-loop-again Inv-loop μ-loop
 unfolding maskedBox
@@ -44,12 +51,12 @@ again c =
     let M : List ℕ = at-loop .before .before .args .t1 in
     let n : ℕ = l .n in
     let taken : read .read .result ≡ n % 16 = read .read .ensures ∙ l .inv .1 in
-    let given : fill .before .before .read2 .result ≡ (n + 1) % 16 = fill .before .before .read2 .ensures ∙ next .next .ensures ∙ omega arith in (
-      search needs,
-      search needs,
-      rw (row-more (box M) n)
-          (lent 4096 (256 * n) (256 * n + 256) (inRow (box M) n) (box M n) (l .r) _ (l .inv .2) (row-size (box M) 256 (box-size M) n)
-          (fill .fill .ensures ∙ λ i. table (λ x. sBox (x ⊕ at M (taken i)) ⊕ at M (given i)) 256) (box-size M n ∙ omega arith) (omega arith) (omega arith)),
+    let label : next .next .result .0 ≡ (n + 1) % 16 = next .next .ensures ∙ row-label (l .l .0) n (l .inv .1) in
+    let given : fill .before .before .read2 .result ≡ (n + 1) % 16 = fill .before .before .read2 .ensures ∙ label in (
+      one-more (next .before .loop-test .taken),
+      label,
+      row-lent (box M) 256 (box-size M) n 4096 (l .r) _ (room n (next .before .loop-test .taken)) (l .inv .2)
+          (fill .fill .ensures ∙ λ i. table (λ x. sBox (x ⊕ at M (taken i)) ⊕ at M (given i)) 256),
     )
 
 returns : tie.Need-returns Inv-loop μ-loop
@@ -57,10 +64,10 @@ unfolding maskedBoxes
 returns c =
     let l = c .before .loop in
     let M : List ℕ = c .before .before .before .args .t1 in
-    let e : l .n ≡ 16 = omega arith in
+    let e : l .n ≡ 16 = ended (l .inv .0) (c .loop-test .left) in
     holds-all 4096 (inRow (box M) 16) (l .r) (rw e at (l .inv .2)) (row-size (box M) 256 (box-size M) 16)
 
 pub made-spec : {M : Type 1} → statement M
 made-spec =
     tie.close
-    (tie.spec Inv-loop μ-loop (λ c κs. search needs) begin (λ c. search needs) (λ c. search needs) (λ c κs. search needs) (λ c κs. search needs) (λ c. search needs) (λ c κs. search needs) (λ c. search needs) (λ c. search needs) (λ c. search needs) (λ c. search needs) (λ c κs. search needs) (λ c. search needs) (λ c. search needs) again returns)
+    (tie.spec Inv-loop μ-loop (λ c κs. search needs) begin (λ c. search needs) (λ c. search needs) (λ c κs. search needs) (λ c κs. search needs) (λ c. search needs) (λ c κs. search needs) (λ c. search needs) (λ c. search needs) (λ c. search needs) (λ c. search needs) fill-given (λ c. search needs) (λ c. search needs) again returns)

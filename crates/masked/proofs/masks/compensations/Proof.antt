@@ -1,14 +1,15 @@
 -- After n turns the constants of n labels stand in the array.
 -- Assumes nothing.
 use mathlib.Core.List.{List}
-use mathlib.Core.Path.{_≡_, ap, _∙_}
-use Prim.Native.Nat.{ℕ, _+_, _-_, _*_, _%_, _≤_}
+use mathlib.Core.Path.{_≡_, refl, ap, _∙_}
+use Prim.Native.Nat.{ℕ, _+_, _-_, _*_, _%_, _≤_, _<_}
 use native.Mathlib.Omega.{arith}
 use borrow.Author.Needs.{needs}
+use lib.Dec.{lit≤}
 use Rattle.aes.specs.Held.{Holds}
-use Rattle.aes.proofs.Part.{holds-none, holds-all, lent}
+use Rattle.aes.proofs.Part.{holds-none, holds-all}
 use Rattle.masked.specs.Mask.{inRow, compensation, allCompensations}
-use Rattle.masked.proofs.Row.{row-more, row-size}
+use Rattle.masked.proofs.Row.{one-more, ended, row-label, row-size, row-lent}
 use Rattle.masked.proofs.Store.{compensation-size}
 use Rattle.masked.proofs.masks.compensations.Statement.{statement}
 use Rattle.masked.proofs.masks.compensations.Tie as tie
@@ -21,22 +22,30 @@ abbrev μ-loop : tie.MeasureT-loop
 
 begin : tie.Need-loop-holds Inv-loop μ-loop
 unfolding inRow
-begin c = (search needs, search needs, holds-none 256 _ (search needs))
+begin c = (lit≤ tt, refl, holds-none 256 _ refl)
+
+lent-doubles : tie.Need-compensation-requires Inv-loop μ-loop
+lent-doubles c κs = (search needs, c .before .before .before .doubles .ensures)
+
+small : (n : ℕ) → n < 16 → n % 16 ≡ n
+small n lt = omega (arith, lt)
+
+room : (n : ℕ) → n < 16 → 16 * n + 16 ≤ 256
+room n lt = omega (arith, lt)
 
 again : tie.Need-loop-again Inv-loop μ-loop
 again c =
     let keep = c .before .before in
     let made = keep .before .before in
-    let at-loop = made .before .before .before in
-    let l = at-loop .loop in
-    let M : List ℕ = at-loop .before .before .args .masks in
+    let in-loop = made .before .before in
+    let l = in-loop .before .loop in
+    let M : List ℕ = in-loop .before .before .before .args .masks in
     let n : ℕ = l .n in
-    let label : l .l .0 ≡ n = omega arith in (
-      search needs,
-      search needs,
-      rw (row-more (compensation M) n)
-          (lent 256 (16 * n) (16 * n + 16) (inRow (compensation M) n) (compensation M n) (l .r) _ (l .inv .2) (row-size (compensation M) 16 (compensation-size M) n)
-          (keep .keep .ensures .1 ∙ keep .keep .ensures .0 ∙ made .compensation .ensures ∙ ap (compensation M) label) (compensation-size M n ∙ omega arith) (omega arith) (omega arith)),
+    let label : l .l .0 ≡ n = l .inv .1 ∙ small n (in-loop .loop-test .taken) in (
+      one-more (in-loop .loop-test .taken),
+      c .next .ensures ∙ row-label (l .l .0) n (l .inv .1),
+      row-lent (compensation M) 16 (compensation-size M) n 256 (l .r) _ (room n (in-loop .loop-test .taken)) (l .inv .2)
+          (keep .keep .ensures .1 ∙ keep .keep .ensures .0 ∙ made .compensation .ensures ∙ ap (compensation M) label),
     )
 
 returns : tie.Need-returns Inv-loop μ-loop
@@ -44,10 +53,10 @@ unfolding allCompensations
 returns c =
     let l = c .before .loop in
     let M : List ℕ = c .before .before .before .args .masks in
-    let e : l .n ≡ 16 = omega arith in
+    let e : l .n ≡ 16 = ended (l .inv .0) (c .loop-test .left) in
     holds-all 256 (inRow (compensation M) 16) (l .r) (rw e at (l .inv .2)) (row-size (compensation M) 16 (compensation-size M) 16)
 
 pub compensations-spec : {M : Type 1} → statement M
 compensations-spec =
     tie.close
-    (tie.spec Inv-loop μ-loop (λ c κs. search needs) begin (λ c. search needs) (λ c. search needs) (λ c κs. search needs) (λ c. search needs) (λ c. search needs) (λ c. search needs) (λ c κs. search needs) (λ c κs. search needs) (λ c. search needs) (λ c. search needs) again returns)
+    (tie.spec Inv-loop μ-loop (λ c κs. search needs) begin (λ c. search needs) (λ c. search needs) lent-doubles (λ c. search needs) (λ c. search needs) (λ c. search needs) (λ c κs. search needs) (λ c κs. search needs) (λ c. search needs) (λ c. search needs) again returns)

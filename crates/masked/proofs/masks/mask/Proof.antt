@@ -1,7 +1,7 @@
 -- Each turn fills one more byte, by the label over its position.
 -- Assumes nothing.
-use mathlib.Core.Path.{refl, _∙_}
-use Prim.Native.Nat.{_+_, _-_, _%_}
+use mathlib.Core.Path.{refl}
+use Prim.Native.Nat.{_-_}
 use borrow.Author.Needs.{needs}
 use Rattle.aes.specs.State.{at}
 use Rattle.masked.specs.Mask.{maskByte, mask}
