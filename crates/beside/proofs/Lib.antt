@@ -1,0 +1,3 @@
+pub mod Below
+pub mod MaskedInversion
+pub mod Unique

@@ -1,0 +1,31 @@
+-- Uniqueness: whatever the arguments, a call's promise allows one result.
+-- Assumes nothing.
+use mathlib.Core.Path.{_≡_, refl, sym, ap, _∙_}
+use Prim.Native.Nat.{ℕ, zero, suc}
+use Rattle.aes.proofs.Unique.{Unique, valued}
+use Rattle.beside.specs.declared.host.Sorted.{Sorted}
+use Rattle.beside.specs.declared.host.Sorted.the-variants.{GoOn, CallerFault, DataFault}
+use Rattle.beside.specs.Host.{sortedNumber}
+use Rattle.beside.proofs.fit.fitness.Reads as fitness
+use Rattle.beside.proofs.host.sort_reply.Reads as sort-reply
+use Rattle.beside.proofs.inversion.masked_inverse.Reads as masked-inverse
+
+pub fitness-unique : Unique fitness.Post
+fitness-unique κs args exit x y p q = valued x y _ p q
+
+-- each sort has its own number
+abbrev sortOf : ℕ → Sorted
+sortOf zero = GoOn
+sortOf (suc zero) = CallerFault
+sortOf (suc (suc n)) = DataFault
+
+sort-number : (s : Sorted) → sortOf (sortedNumber s) ≡ s
+sort-number GoOn = refl
+sort-number CallerFault = refl
+sort-number DataFault = refl
+
+pub sort-reply-unique : Unique sort-reply.Post
+sort-reply-unique κs args exit x y p q = sym (sort-number x) ∙ ap sortOf (p ∙ sym q) ∙ sort-number y
+
+pub masked-inverse-unique : Unique masked-inverse.Post
+masked-inverse-unique κs args exit x y p q = p ∙ sym q

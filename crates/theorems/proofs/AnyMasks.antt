@@ -1,0 +1,114 @@
+-- The relation over any sequence of masks: a masked run's states are the plain ones, each under the mask of its point.
+-- Assumes nothing.
+use mathlib.Core.Path.{_≡_, refl, sym, ap}
+use mathlib.Core.List.{List, _∷_, _++_, map, map-append}
+use Prim.Native.Nat.{ℕ, zero, suc, _-_}
+use Rattle.aes.specs.State.{subBytes, shiftRows, mixColumns, addRoundKey}
+use Rattle.aes.specs.Key.{roundKey}
+use Rattle.aes.specs.Record.{Point, block, keyed, boxed, shifted, mixed, compensated, closed, uncovered, whole, final, wholes, points, run, last, plain, plainRecord}
+use Rattle.aes.proofs.Xor.{sums}
+use Rattle.aes.proofs.Undo.{mix-add, shift-add}
+use Rattle.aes.proofs.Written.{last-append}
+use Rattle.masked.specs.Mask.{_⊞_, ending}
+use Rattle.theorems.specs.MaskTable.{bare, summed}
+use Rattle.theorems.proofs.Cover.{Linked, linked-append, cover}
+
+add-swap : (s m k : List ℕ) → s ⊞ m ⊞ k ≡ s ⊞ k ⊞ m
+unfolding addRoundKey
+add-swap s m k = simp sums
+
+add-change : (s c m : List ℕ) → s ⊞ c ⊞ (m ⊞ c) ≡ s ⊞ m
+unfolding addRoundKey
+add-change s c m = simp sums
+
+add-gone : (s m : List ℕ) → s ⊞ m ⊞ m ≡ s ⊞ bare
+unfolding addRoundKey
+add-gone s m = simp sums
+
+add-bare : (a b : List ℕ) → a ⊞ bare ⊞ b ≡ a ⊞ b
+unfolding addRoundKey
+add-bare a b = simp sums
+
+-- The steps of a masked run over any sequence K of masks, where K r lies on the state that round r begins with.
+unfoldable pub coveredBy : ℕ → (ℕ → List ℕ) → List ℕ → Point → List ℕ → List ℕ
+coveredBy form K w block s = s ⊞ K 0
+coveredBy form K w (keyed r) s = s ⊞ roundKey w r
+coveredBy form K w (boxed r) s = subBytes (s ⊞ K r) ⊞ K (suc r)
+coveredBy form K w (shifted r) s = shiftRows s
+coveredBy form K w (mixed r) s = mixColumns s
+coveredBy form K w (compensated r) s = s ⊞ (K (suc r) ⊞ mixColumns (shiftRows (K (suc r))))
+coveredBy form K w (closed r) s = s ⊞ roundKey w (suc r)
+coveredBy form K w (uncovered r) s = s ⊞ ending form (K (suc r))
+
+-- what the form leaves on the finished block; the mask at each point, and before it
+unfoldable pub left : ℕ → List ℕ → List ℕ
+left zero m = bare
+left (suc form) m = m
+
+unfoldable pub maskBy : ℕ → (ℕ → List ℕ) → Point → List ℕ
+maskBy form K block = K 0
+maskBy form K (keyed r) = K r
+maskBy form K (boxed r) = K (suc r)
+maskBy form K (shifted r) = shiftRows (K (suc r))
+maskBy form K (mixed r) = mixColumns (shiftRows (K (suc r)))
+maskBy form K (compensated r) = K (suc r)
+maskBy form K (closed r) = shiftRows (K (suc r))
+maskBy form K (uncovered r) = left form (K (suc r))
+
+before : (ℕ → List ℕ) → Point → List ℕ
+before K block = bare
+before K (keyed r) = K r
+before K (boxed r) = K r
+before K (shifted r) = K (suc r)
+before K (mixed r) = shiftRows (K (suc r))
+before K (compensated r) = mixColumns (shiftRows (K (suc r)))
+before K (closed r) = shiftRows (K (suc r))
+before K (uncovered r) = shiftRows (K (suc r))
+
+box-add : (s k m : List ℕ) → subBytes (s ⊞ k ⊞ k) ⊞ m ≡ subBytes s ⊞ m
+unfolding subBytes addRoundKey
+box-add s k m = simp sums
+
+-- what is left of the mask once the last constant is added
+ends : (form : ℕ) (s m : List ℕ) → s ⊞ shiftRows m ⊞ ending form m ≡ s ⊞ left form m
+unfolding ending left
+ends zero s m = add-gone s (shiftRows m)
+ends (suc form) s m = add-change s (shiftRows m) m
+
+module _ (form : ℕ) (K : ℕ → List ℕ) where
+  -- a covered step takes the mask before its point to the mask at it
+  step : (w : List ℕ) (p : Point) (s : List ℕ) → coveredBy form K w p (s ⊞ before K p) ≡ plain w p s ⊞ maskBy form K p
+  unfolding before coveredBy plain maskBy
+  step w block s = add-bare s (K 0)
+  step w (keyed r) s = add-swap s (K r) (roundKey w r)
+  step w (boxed r) s = box-add s (K r) (K (suc r))
+  step w (shifted r) s = shift-add s (K (suc r))
+  step w (mixed r) s = mix-add s (shiftRows (K (suc r)))
+  step w (compensated r) s = add-change s (mixColumns (shiftRows (K (suc r)))) (K (suc r))
+  step w (closed r) s = add-swap s (shiftRows (K (suc r))) (roundKey w (suc r))
+  step w (uncovered r) s = ends form s (K (suc r))
+
+  last-wholes : (n : ℕ) → last (K 0) (map (maskBy form K) (wholes n)) ≡ K n
+  unfolding wholes last maskBy
+  last-wholes zero = refl
+  last-wholes (suc n) = rw (map-append, last-append)
+
+  linked-wholes : (n : ℕ) → Linked (before K) (maskBy form K) (K 0) (wholes n)
+  unfolding wholes before maskBy
+  linked-wholes zero = tt
+  linked-wholes (suc n) =
+      linked-append (before K) (maskBy form K) (wholes n) (whole n) (K 0) (linked-wholes n)
+      (sym (last-wholes n), (refl, (refl, (refl, (refl, tt)))))
+
+  linked : (n : ℕ) → Linked (before K) (maskBy form K) (K 0) (wholes n ++ final n)
+  unfolding before maskBy
+  linked n =
+      linked-append (before K) (maskBy form K) (wholes n) (final n) (K 0) (linked-wholes n)
+      (sym (last-wholes n), (refl, (refl, (refl, (refl, tt)))))
+
+  pub relation-any : (w : List ℕ) (nr : ℕ) (b : List ℕ)
+      → run (coveredBy form K w) b (points nr) ≡ summed (plainRecord nr w b) (map (maskBy form K) (points nr))
+  unfolding run summed points plainRecord coveredBy plain maskBy
+  relation-any w nr b =
+      ap (λ (u : List (List ℕ)). b ⊞ K 0 ∷ u)
+      (cover (plain w) (coveredBy form K w) (before K) (maskBy form K) (step w) (wholes (nr - 1) ++ final (nr - 1)) (K 0) b (linked (nr - 1)))

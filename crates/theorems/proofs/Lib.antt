@@ -1,0 +1,14 @@
+pub mod SubBytes
+pub mod RoundTrip
+pub mod PlainRecord
+pub mod CallLaws
+pub mod Cover
+pub mod AnyMasks
+pub mod Relation
+pub mod Result
+pub mod Balancing
+pub mod RecordBytes
+pub mod RecordBalance
+pub mod Differing
+pub mod Sheets
+pub mod Examples

@@ -1,0 +1,117 @@
+-- The balance of a masked record: over the sixteen offsets, of each byte that one mask covers; and that it fails after MIXCOLUMNS.
+-- Assumes nothing.
+use mathlib.Core.Path.{_≡_, refl, sym, ap, _∙_}
+use mathlib.Core.Bool.{cond}
+use mathlib.Core.List.{List, [], _∷_}
+use Prim.Native.Nat.{ℕ, suc, _+_, _*_, _/_, _%_, _<_, _≤_}
+use native.Mathlib.Nat.{add-assoc}
+use native.Mathlib.Omega.{arith}
+use lib.Dec.{T, lit<}
+use lib.ListN.{length, getD}
+use Rattle.aes.specs.Byte.{_⊕_, table}
+use Rattle.aes.specs.Field.{xTimes, times as product, _•_}
+use Rattle.aes.specs.State.{at, cell, ahead, dot, shiftRows, mixColumns}
+use Rattle.aes.specs.Record.{Point, block, keyed, boxed, shifted, mixed, compensated, closed, uncovered, wholes, points, plainRecord}
+use Rattle.aes.proofs.Listed.{table-at}
+use Rattle.masked.specs.Mask.{published, mask}
+use Rattle.theorems.specs.MaskTable.{maskAt}
+use Rattle.theorems.specs.Balance.{pattern, count, times, different, Balanced, single}
+use Rattle.masked.specs.Calls.{recordMaskedOf}
+use Rattle.theorems.proofs.AnyMasks.{maskBy}
+use Rattle.theorems.proofs.Relation.{rotating, mask-entry, maskAt-is}
+use Rattle.theorems.proofs.Balancing.{published-balanced-test, balanced-test, balanced-same, balanced-xor, balanced-back, balanced-turn}
+use Rattle.theorems.proofs.RecordBytes.{record-byte}
+
+-- where one mask covers byte i: how far its label is from the offset
+record Label (p : Point) (i : ℕ) : Type 0 where
+  label : ℕ
+  same : (M : List ℕ) (o : ℕ) → at (maskAt M o p) i ≡ at M ((o + label) % 16)
+
+own : (p : Point) (r i : ℕ) → i < 16 → ((K : ℕ → List ℕ) → maskBy 0 K p ≡ K r) → Label p i
+own p r i h e =
+    record { label = r + i; same = λ M o. rw (maskAt-is M o p, e (rotating M o), ← add-assoc) (mask-entry M (o + r) i h) }
+
+from : ℕ → ℕ
+from i = i % 4 + 4 * ahead (i % 4) (i / 4)
+
+shift-at : (s : List ℕ) (i : ℕ) → i < 16 → at (shiftRows s) i ≡ at s (from i)
+unfolding shiftRows from table
+shift-at s = table-at (λ i. cell s (i % 4) (ahead (i % 4) (i / 4))) 16
+
+from-lt : (i : ℕ) → from i < 16
+unfolding from
+from-lt i = omega arith
+
+moved : (p : Point) (r i : ℕ) → i < 16 → ((K : ℕ → List ℕ) → maskBy 0 K p ≡ shiftRows (K r)) → Label p i
+moved p r i h e =
+    record {
+      label = r + from i;
+      same = λ M o. rw (maskAt-is M o p, e (rotating M o), shift-at (rotating M o r) i h, ← add-assoc) (mask-entry M (o + r) (from i) (from-lt i));
+    }
+
+label-of : (p : Point) (i : ℕ) → T (single p) → i < 16 → Label p i
+unfolding single maskBy
+label-of block i t h = own block 0 i h (λ K. refl)
+label-of (keyed r) i t h = own (keyed r) r i h (λ K. refl)
+label-of (boxed r) i t h = own (boxed r) (suc r) i h (λ K. refl)
+label-of (shifted r) i t h = moved (shifted r) (suc r) i h (λ K. refl)
+label-of (mixed r) i t h = absurd t
+label-of (compensated r) i t h = own (compensated r) (suc r) i h (λ K. refl)
+label-of (closed r) i t h = moved (closed r) (suc r) i h (λ K. refl)
+label-of (uncovered r) i t h = absurd t
+
+-- for every balanced table
+pub record-balance : (M : List ℕ) → Balanced (at M) → length M ≡ 16
+    → (w b states : List ℕ) → length w ≡ 240 → length b ≡ 16 → length states ≡ 1136
+    → (q i : ℕ) → q < 71 → T (single (getD (points 14) q block)) → i < 16
+    → Balanced (λ o. at (recordMaskedOf w b M o states .1) (16 * q + i))
+record-balance M balance lm w b states lw lb ls q i hq t hi =
+    let u : Label (getD (points 14) q block) i = label-of (getD (points 14) q block) i t hi in
+    let c : ℕ = at (getD (plainRecord 14 w b) q []) i in
+    balanced-same (λ o. at (recordMaskedOf w b M o states .1) (16 * q + i)) (λ o. c ⊕ at M ((o + u .label) % 16))
+    (λ o h. record-byte M lm w b states lw lb ls q i o hq hi (omega arith) ∙ ap (λ (x : ℕ). c ⊕ x) (u .same M o))
+    (balanced-xor c (λ o. at M ((o + u .label) % 16)) (balanced-turn (at M) balance (u .label)))
+
+-- computed: one mask covers each byte at 57 of the 71 points
+pub singles : List Point → ℕ
+singles [] = 0
+singles (p ∷ ps) = cond (single p) 1 0 + singles ps
+
+pub fifty-seven : singles (points 14) ≡ 57
+unfolding singles single points wholes
+fifty-seven = refl
+
+-- computed: after the first MIXCOLUMNS, at point 4, the upper three mask bits of byte 0 are 111 at three offsets
+pub mixture : times (λ o. at (maskAt published o (mixed 0)) 0) 5 6 7 7 ≡ 3
+unfolding maskAt mask published shiftRows mixColumns dot _•_ product xTimes pattern count
+mixture = refl
+
+point-4 : getD (points 14) 4 block ≡ mixed 0
+unfolding points wholes
+point-4 = refl
+
+published-length : length published ≡ 16
+unfolding published
+published-length = refl
+
+-- the published masks
+module _ (w b states : List ℕ) (lw : length w ≡ 240) (lb : length b ≡ 16) (ls : length states ≡ 1136) where
+  pub published-balance : (q i : ℕ) → q < 71 → T (single (getD (points 14) q block)) → i < 16
+      → Balanced (λ o. at (recordMaskedOf w b published o states .1) (16 * q + i))
+  published-balance =
+      record-balance published (balanced-test (at published) published-balanced-test) published-length w b states lw lb ls
+
+  mixed-byte : (o : ℕ) → o ≤ 15
+      → at (recordMaskedOf w b published o states .1) (16 * 4 + 0) ≡ at (getD (plainRecord 14 w b) 4 []) 0 ⊕ at (maskAt published o (mixed 0)) 0
+  mixed-byte o h = record-byte published published-length w b states lw lb ls 4 0 o (lit< tt) (lit< tt) h ∙ rw point-4
+
+  -- balance fails at point 4, for every schedule and block
+  pub mixture-unbalanced : Balanced (λ o. at (recordMaskedOf w b published o states .1) (16 * 4 + 0)) → ⊥
+  unfolding different
+  mixture-unbalanced balance =
+      let c : ℕ = at (getD (plainRecord 14 w b) 4 []) 0 in
+      let m : ℕ → ℕ = λ o. at (maskAt published o (mixed 0)) 0 in
+      let under : Balanced (λ o. c ⊕ m o) = balanced-same (λ o. c ⊕ m o) _ (λ o h. sym (mixed-byte o (omega arith))) balance in
+      let e : _≡_ {A = ℕ} 3 2 =
+      sym mixture ∙ balanced-back c m under .twice 5 6 7 7 (lit< tt) (lit< tt) (lit< tt) tt (lit< tt) in
+      omega arith

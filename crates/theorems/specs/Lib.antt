@@ -1,0 +1,2 @@
+pub mod MaskTable
+pub mod Balance
