@@ -1,0 +1,7 @@
+-- How C is given a reply number and a value at once.
+-- Assumes nothing.
+use Prim.Native.Nat.{ℕ, _+_, _*_}
+
+-- one number of sixteen bits, the reply number in the higher eight
+abbrev pub packed : ℕ × ℕ → ℕ
+packed (number, value) = number * 256 + value

@@ -1,0 +1,100 @@
+//! Draws what a call is lent, with the causes of refusal that are asked for and no others.
+
+use crate::cipher::{expand_key, Boxes};
+use crate::lent::{Buffer, Lent};
+use crate::masked::PUBLISHED;
+use crate::random::Random;
+
+/// The lengths that calls take: each is the wrong one for another buffer.
+const LENGTHS: [usize; 5] = [16, 21, 32, 240, 1136];
+
+/// Broken has the reply numbers whose causes are wanted.
+pub fn draw(random: &mut Random, boxes: &Boxes, broken: &[u8]) -> Lent {
+    let wants = |number: u8| broken.contains(&number);
+    let key = bytes(random, 32, wants(1));
+    let schedule = schedule(random, boxes, wants(2));
+    let input = bytes(random, 16, wants(3));
+    let output = bytes(random, 16, wants(4));
+    let masks = if wants(5) { bytes(random, 16, true) } else { masks(random).to_vec() };
+    let states = bytes(random, 1136, wants(8));
+    let sheet = sheet(random, wants(11), wants(12), wants(13));
+    let blank = random.bytes(sheet.len());
+    let [key, schedule, input, output, masks, states, sheet, blank] =
+        [key, schedule, input, output, masks, states, sheet, blank].map(|body| Buffer::new(random, &body));
+    let offset = if wants(6) { 16 + random.below(240) } else { random.below(16) } as u8;
+    let form = if wants(7) { 2 + random.below(254) } else { random.below(2) } as u8;
+    Lent { key, schedule, input, output, masks, states, sheet, blank, offset, form }
+}
+
+/// Empty, one off, twice as long, a length that another buffer has, or any.
+fn wrong_length(random: &mut Random, right: usize) -> usize {
+    loop {
+        let length = match random.below(6) {
+            0 => 0,
+            1 => right - 1,
+            2 => right + 1,
+            3 => 2 * right,
+            4 => LENGTHS[random.below(LENGTHS.len())],
+            _ => random.below(2000),
+        };
+        if length != right {
+            return length;
+        }
+    }
+}
+
+/// All 00, all ff, one bit, or random.
+fn bytes(random: &mut Random, right: usize, wrong: bool) -> Vec<u8> {
+    let length = if wrong { wrong_length(random, right) } else { right };
+    match random.below(10) {
+        0 => vec![0x00; length],
+        1 => vec![0xff; length],
+        2 if length > 0 => {
+            let mut bytes = vec![0; length];
+            bytes[random.below(length)] = 1 << random.below(8);
+            bytes
+        }
+        _ => random.bytes(length),
+    }
+}
+
+/// That of a key, or any bytes.
+fn schedule(random: &mut Random, boxes: &Boxes, wrong: bool) -> Vec<u8> {
+    if !wrong && random.below(4) == 0 {
+        return expand_key(boxes, &random.bytes(32));
+    }
+    bytes(random, 240, wrong)
+}
+
+/// The published masks, one mask for all, sixteen different ones, two that are equal, or random.
+fn masks(random: &mut Random) -> [u8; 16] {
+    let (first, step) = (random.byte(), random.byte() | 1);
+    let mut masks: [u8; 16] = std::array::from_fn(|i| first.wrapping_add(step.wrapping_mul(i as u8)));
+    match random.below(6) {
+        0 => return PUBLISHED,
+        1 => return [0; 16],
+        2 => return [first; 16],
+        3 => {}
+        4 => masks[random.below(16)] = masks[random.below(16)],
+        _ => masks = std::array::from_fn(|_| random.byte()),
+    }
+    masks
+}
+
+/// "MSK", version 1 and sixteen masks, damaged as asked.
+fn sheet(random: &mut Random, length: bool, mark: bool, version: bool) -> Vec<u8> {
+    let mut sheet = b"MSK\x00\x01".to_vec();
+    sheet.extend(masks(random));
+    if mark {
+        sheet[random.below(3)] ^= 1 + random.below(255) as u8;
+    }
+    while version && sheet[3..5] == [0, 1] {
+        let versions = [[0, 0], [0, 2], [1, 0], [1, 1], [random.byte(), random.byte()]];
+        sheet[3..5].copy_from_slice(&versions[random.below(versions.len())]);
+    }
+    if length {
+        let filler = random.byte();
+        sheet.resize(wrong_length(random, 21), filler);
+    }
+    sheet
+}

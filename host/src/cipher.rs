@@ -1,0 +1,124 @@
+//! AES-256 as FIPS 197 writes it: the transformations on a state, key expansion, CIPHER, INVCIPHER and the recorded run.
+
+use crate::field::{s_box, times};
+use std::array::from_fn;
+
+/// Byte r + 4c is row r of column c.
+pub type State = [u8; 16];
+
+/// S and its inverse, worked out once from the formula.
+pub struct Boxes {
+    forward: [u8; 256],
+    backward: [u8; 256],
+}
+
+impl Boxes {
+    pub fn new() -> Boxes {
+        let forward: [u8; 256] = from_fn(|x| s_box(x as u8));
+        let mut backward = [0; 256];
+        for x in 0..=255u8 {
+            backward[usize::from(forward[usize::from(x)])] = x;
+        }
+        Boxes { forward, backward }
+    }
+
+    pub fn s(&self, x: u8) -> u8 {
+        self.forward[usize::from(x)]
+    }
+
+    fn sub_bytes(&self, s: &State) -> State {
+        s.map(|x| self.s(x))
+    }
+
+    fn inv_sub_bytes(&self, s: &State) -> State {
+        s.map(|x| self.backward[usize::from(x)])
+    }
+}
+
+pub fn add(a: &State, b: &State) -> State {
+    from_fn(|i| a[i] ^ b[i])
+}
+
+/// Row r, column c gets the byte of row r, column c + r.
+pub fn shift_rows(s: &State) -> State {
+    from_fn(|i| s[i % 4 + 4 * ((i / 4 + i % 4) % 4)])
+}
+
+fn inv_shift_rows(s: &State) -> State {
+    from_fn(|i| s[i % 4 + 4 * ((i / 4 + 4 - i % 4) % 4)])
+}
+
+/// Each column times the circulant matrix whose first row is given.
+fn mix(s: &State, first_row: [u8; 4]) -> State {
+    from_fn(|i| {
+        let (row, column) = (i % 4, i / 4);
+        (0..4).fold(0, |sum, k| sum ^ times(s[4 * column + k], first_row[(k + 4 - row) % 4]))
+    })
+}
+
+pub fn mix_columns(s: &State) -> State {
+    mix(s, [0x02, 0x03, 0x01, 0x01])
+}
+
+fn inv_mix_columns(s: &State) -> State {
+    mix(s, [0x0e, 0x0b, 0x0d, 0x09])
+}
+
+/// The state under sixteen bytes of a schedule.
+pub fn add_round_key(s: &State, schedule: &[u8], round: usize) -> State {
+    from_fn(|i| s[i] ^ schedule[16 * round + i])
+}
+
+/// KEYEXPANSION for eight words of key, sixty in all.
+pub fn expand_key(boxes: &Boxes, key: &[u8]) -> Vec<u8> {
+    let mut words: Vec<[u8; 4]> = key.chunks(4).map(|w| [w[0], w[1], w[2], w[3]]).collect();
+    let mut constant = 1;
+    for i in 8..60 {
+        let mut temp = words[i - 1];
+        if i % 8 == 0 {
+            temp.rotate_left(1);
+            temp = temp.map(|x| boxes.s(x));
+            temp[0] ^= constant;
+            constant = times(constant, 2);
+        } else if i % 8 == 4 {
+            temp = temp.map(|x| boxes.s(x));
+        }
+        let earlier = words[i - 8];
+        words.push(from_fn(|k| earlier[k] ^ temp[k]));
+    }
+    words.concat()
+}
+
+/// CIPHER with fourteen rounds.
+pub fn encrypt(boxes: &Boxes, schedule: &[u8], block: &State) -> State {
+    let mut s = add_round_key(block, schedule, 0);
+    for round in 1..=13 {
+        s = mix_columns(&shift_rows(&boxes.sub_bytes(&s)));
+        s = add_round_key(&s, schedule, round);
+    }
+    add_round_key(&shift_rows(&boxes.sub_bytes(&s)), schedule, 14)
+}
+
+/// INVCIPHER with fourteen rounds: the inverse steps in the inverse order.
+pub fn decrypt(boxes: &Boxes, schedule: &[u8], block: &State) -> State {
+    let mut s = add_round_key(block, schedule, 14);
+    for round in (1..=13).rev() {
+        s = boxes.inv_sub_bytes(&inv_shift_rows(&s));
+        s = inv_mix_columns(&add_round_key(&s, schedule, round));
+    }
+    add_round_key(&boxes.inv_sub_bytes(&inv_shift_rows(&s)), schedule, 0)
+}
+
+/// The 71 states of a plain run. Where a masked run compensates or uncovers, the state before stands again.
+pub fn record(boxes: &Boxes, schedule: &[u8], block: &State) -> Vec<State> {
+    let mut states = vec![*block];
+    let mut s = *block;
+    for round in 0..=13 {
+        let keyed = add_round_key(&s, schedule, round);
+        let boxed = boxes.sub_bytes(&keyed);
+        let shifted = shift_rows(&boxed);
+        s = if round < 13 { mix_columns(&shifted) } else { add_round_key(&shifted, schedule, 14) };
+        states.extend([keyed, boxed, shifted, s, s]);
+    }
+    states
+}

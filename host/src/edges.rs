@@ -1,0 +1,105 @@
+//! The edges that the scope names, one by one.
+
+use crate::calls;
+use crate::report::Tally;
+
+/// A name, what the library gave and what it should give.
+struct Edge {
+    name: String,
+    given: u16,
+    expected: u16,
+}
+
+/// Prints each edge, and counts those that are not where they should be. A spoiled expectation must be found to differ.
+pub fn compare(spoiled: bool) -> Tally {
+    let mut tally = Tally::default();
+    let edges = [lengths_of_keys(), huge(), offsets_and_forms(), powers(), sheets(), zero_masks()];
+    for edge in edges.into_iter().flatten() {
+        let expected = edge.expected ^ u16::from(spoiled);
+        let same = edge.given == expected;
+        let verdict = if same { String::new() } else { format!(", and should be {expected}") };
+        println!("  {:<48} {:>5}{verdict}", edge.name, edge.given);
+        tally.add(same);
+    }
+    tally
+}
+
+fn edge(name: impl Into<String>, given: impl Into<u16>, expected: u16) -> Edge {
+    Edge { name: name.into(), given: given.into(), expected }
+}
+
+fn lengths_of_keys() -> Vec<Edge> {
+    let expanded = |length: usize| calls::expand_key(&vec![0; length], &mut [0; 240]);
+    [(31, 1), (33, 1), (0, 1), (32, 0), (16, 1), (24, 1)]
+        .map(|(length, expected)| edge(format!("reply to a key of {length} bytes"), expanded(length), expected))
+        .into()
+}
+
+/// A mebibyte where a few bytes are wanted.
+fn huge() -> Vec<Edge> {
+    let many = vec![0; 1 << 20];
+    vec![
+        edge("reply to a key of a mebibyte", calls::expand_key(&many, &mut [0; 240]), 1),
+        edge("reply to a schedule of a mebibyte", calls::encrypt(&many, &[0; 16], &mut [0; 16]), 2),
+        edge("reply to a block of a mebibyte", calls::encrypt(&[0; 240], &many, &mut [0; 16]), 3),
+        edge("reply to a mask table of a mebibyte", calls::fitness(&many) >> 8, 5),
+        edge("reply to a sheet of a mebibyte", calls::read_sheet(&many, &mut [0; 16]), 11),
+    ]
+}
+
+fn offsets_and_forms() -> Vec<Edge> {
+    let (w, block, masks) = ([0; 240], [0; 16], [0; 16]);
+    let mut edges = Vec::new();
+    for (offset, form, expected) in [(15, 0, 0), (16, 0, 6), (0, 1, 0), (0, 2, 7)] {
+        let published = calls::encrypt_published(&w, &block, &mut [0; 16], offset, form);
+        edges.push(edge(format!("reply to offset {offset}, form {form}, published masks"), published, expected));
+        let masked = calls::encrypt_masked(&w, &block, &mut [0; 16], &masks, offset, form);
+        edges.push(edge(format!("reply to offset {offset}, form {form}, any masks"), masked, expected));
+    }
+    for (offset, expected) in [(15, 0), (16, 6)] {
+        let recorded = calls::record_masked(&w, &block, &masks, offset, &mut [0; 1136]);
+        edges.push(edge(format!("reply to offset {offset}, recorded"), recorded, expected));
+    }
+    edges
+}
+
+fn powers() -> Vec<Edge> {
+    vec![
+        edge("reply to power 254", calls::power(254) >> 8, 0),
+        edge("power 254 of 03, its inverse", calls::power(254) & 0xff, 0xf6),
+        edge("reply to power 255", calls::power(255) >> 8, 10),
+        edge("value beside it", calls::power(255) & 0xff, 0),
+        edge("reply to the logarithm of 00", calls::logarithm(0) >> 8, 9),
+        edge("value beside it", calls::logarithm(0) & 0xff, 0),
+    ]
+}
+
+fn sheets() -> Vec<Edge> {
+    let sheet = |length: usize| [b"MSK\x00\x01".to_vec(), vec![7; length - 5]].concat();
+    let mut edges = Vec::new();
+    for (length, expected) in [(20, 11), (21, 0), (22, 11)] {
+        let read = calls::read_sheet(&sheet(length), &mut [0; 16]);
+        edges.push(edge(format!("reply to a sheet of {length} bytes, read"), read, expected));
+        let written = calls::write_sheet(&[7; 16], &mut vec![0; length]);
+        edges.push(edge(format!("reply to a sheet of {length} bytes, written"), written, expected));
+    }
+    edges
+}
+
+fn zero_masks() -> Vec<Edge> {
+    let (mut w, mut plain, mut masked) = ([0; 240], [1; 1136], [2; 1136]);
+    calls::expand_key(&[3; 32], &mut w);
+    calls::record_plain(&w, &[4; 16], &mut plain);
+    let recorded = calls::record_masked(&w, &[4; 16], &[0; 16], 5, &mut masked);
+    let fitness = calls::fitness(&[0; 16]);
+    vec![
+        edge("reply to masks that are all 00, recorded", recorded, 0),
+        edge("bytes in which that record is not the plain one", difference(&plain, &masked), 0),
+        edge("reply to their fitness test", fitness >> 8, 0),
+        edge("their fitness", fitness & 0xff, 0),
+    ]
+}
+
+fn difference(a: &[u8], b: &[u8]) -> u16 {
+    a.iter().zip(b).filter(|(x, y)| x != y).count() as u16
+}

@@ -1,0 +1,61 @@
+//! The independent second program: `second SEED CASES [SPOILED]` compares every public call of the library with an
+//! implementation of its own, on so many cases drawn from the seed, and on all inputs of the calls that take bytes alone.
+//!
+//! It prints for each call how many cases were compared and how many differ, and fails where any does. SPOILED names a call, or
+//! `edges`: what is expected of it is then changed, so that each of its cases must differ.
+
+#![no_main]
+
+mod answer;
+mod bytes;
+mod calls;
+mod cases;
+mod cipher;
+mod compare;
+mod edges;
+mod field;
+mod lent;
+mod masked;
+mod random;
+mod replies;
+mod report;
+mod sheet;
+mod table;
+
+use crate::bytes::BYTE_CALLS;
+use crate::cipher::Boxes;
+use crate::compare::compare;
+use crate::random::Random;
+use crate::report::Report;
+use crate::table::CALLS;
+
+/// C's main and not Rust's, which first asks for the bounds of the stack: there the kit's emulator for x86-64 breaks down.
+#[no_mangle]
+pub extern "C" fn main() -> i32 {
+    let words: Vec<String> = std::env::args().skip(1).collect();
+    let number = |i: usize| words.get(i).and_then(|word| word.parse().ok());
+    match (number(0), number(1), words.len()) {
+        (Some(seed), Some(cases), 2) => all(seed, cases as usize, ""),
+        (Some(seed), Some(cases), 3) => all(seed, cases as usize, &words[2]),
+        _ => {
+            eprintln!("usage: second SEED CASES [SPOILED]");
+            2
+        }
+    }
+}
+
+fn all(seed: u64, cases: usize, spoiled: &str) -> i32 {
+    let boxes = Boxes::new();
+    let mut random = Random::new(seed);
+    let mut report = Report::start();
+    for call in CALLS {
+        let tally = compare(call, &boxes, &mut random, cases, call.name == spoiled);
+        report.row(call.name, call.method, tally);
+    }
+    for call in BYTE_CALLS {
+        let tally = call.compare(&mut random, call.name == spoiled);
+        report.row(call.name, call.method, tally);
+    }
+    report.row("edges", "the scope's numbers", edges::compare(spoiled == "edges"));
+    i32::from(!report.end())
+}

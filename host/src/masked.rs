@@ -1,0 +1,88 @@
+//! The masked run of document 002, its last box label and its last constant as the scope corrects them.
+
+use crate::cipher::{add, add_round_key, mix_columns, shift_rows, Boxes, State};
+use std::array::from_fn;
+
+/// The sixteen masks that document 002 publishes.
+pub const PUBLISHED: [u8; 16] = [0x00, 0x0f, 0x36, 0x39, 0x53, 0x5c, 0x65, 0x6a, 0x95, 0x9a, 0xa3, 0xac, 0xc6, 0xc9, 0xf0, 0xff];
+
+/// What a masked run is run with. Labels are counted modulo 16.
+pub struct Masking {
+    pub masks: [u8; 16],
+    pub offset: usize,
+    pub form: u8,
+}
+
+impl Masking {
+    fn mask_byte(&self, label: usize) -> u8 {
+        self.masks[label % 16]
+    }
+
+    /// Mask(offset + k).
+    fn mask(&self, k: usize) -> State {
+        from_fn(|i| self.mask_byte(self.offset + k + i))
+    }
+
+    /// Compensation(offset + k).
+    fn compensation(&self, k: usize) -> State {
+        let mask = self.mask(k);
+        add(&mask, &mix_columns(&shift_rows(&mask)))
+    }
+
+    /// Box offset + i + round on byte i.
+    fn boxes(&self, boxes: &Boxes, s: &State, round: usize) -> State {
+        from_fn(|i| {
+            let label = self.offset + i + round;
+            boxes.s(s[i] ^ self.mask_byte(label)) ^ self.mask_byte(label + 1)
+        })
+    }
+
+    /// What is xored last: form 1 has the constant that document 002 prints.
+    fn last_constant(&self) -> State {
+        let mask = self.mask(14);
+        match self.form {
+            0 => shift_rows(&mask),
+            _ => add(&mask, &shift_rows(&mask)),
+        }
+    }
+
+    /// The 71 states of the masked run, each made from the one before.
+    pub fn run(&self, boxes: &Boxes, schedule: &[u8], block: &State) -> Vec<State> {
+        let mut s = add(block, &self.mask(0));
+        let mut states = vec![s];
+        for round in 0..=13 {
+            let keyed = add_round_key(&s, schedule, round);
+            let boxed = self.boxes(boxes, &keyed, round);
+            let shifted = shift_rows(&boxed);
+            let (next, constant) = match round {
+                13 => (add_round_key(&shifted, schedule, 14), self.last_constant()),
+                _ => (mix_columns(&shifted), self.compensation(1 + round)),
+            };
+            s = add(&next, &constant);
+            states.extend([keyed, boxed, shifted, next, s]);
+        }
+        states
+    }
+
+    /// The mask that lies at each of the 71 points in form 0, row by row as the scope's table has them.
+    pub fn masks_at_points(&self) -> Vec<State> {
+        let mut masks = vec![self.mask(0)];
+        for round in 0..=12 {
+            let after = self.mask(round + 1);
+            let shifted = shift_rows(&after);
+            masks.extend([self.mask(round), after, shifted, mix_columns(&shifted), after]);
+        }
+        let after = self.mask(14);
+        let shifted = shift_rows(&after);
+        masks.extend([self.mask(13), after, shifted, shifted, [0; 16]]);
+        masks
+    }
+
+    /// What covers the finished block: nothing in form 0, Mask(offset + 14) in form 1.
+    pub fn cover_of_result(&self) -> State {
+        match self.form {
+            0 => [0; 16],
+            _ => self.mask(14),
+        }
+    }
+}

@@ -1,0 +1,179 @@
+//! Every public call that is lent buffers: the refusals that it can meet in their order, how the library is called, and what
+//! it should do.
+
+use crate::answer::{number, packed, Answer};
+use crate::calls;
+use crate::cipher::{add, decrypt, encrypt, expand_key, record, Boxes, State};
+use crate::lent::{Buffer, Lent};
+use crate::masked::{Masking, PUBLISHED};
+use crate::sheet;
+
+/// The reference is asked only where no refusal is met. It gives the value, and writes what is to be written.
+pub struct Call {
+    pub name: &'static str,
+    pub method: &'static str,
+    pub refusals: &'static [u8],
+    pub library: fn(&mut Lent) -> Answer,
+    pub reference: fn(&Boxes, &mut Lent) -> u8,
+}
+
+fn write(target: &mut Buffer, bytes: &[u8]) -> u8 {
+    target.lent_mut().copy_from_slice(bytes);
+    0
+}
+
+fn published(lent: &Lent) -> Masking {
+    Masking { masks: PUBLISHED, offset: lent.offset.into(), form: lent.form }
+}
+
+fn any_masks(lent: &Lent) -> Masking {
+    Masking { masks: lent.masks.sixteen(), offset: lent.offset.into(), form: lent.form }
+}
+
+/// The recorded run is form 0, whatever form was drawn.
+fn form_0(lent: &Lent) -> Masking {
+    Masking { form: 0, ..any_masks(lent) }
+}
+
+fn run(boxes: &Boxes, lent: &Lent, masking: &Masking) -> Vec<State> {
+    masking.run(boxes, lent.schedule.lent(), &lent.input.sixteen())
+}
+
+/// The block that a masked run ends with, as the relation to the plain cipher has it.
+fn covered_cipher(boxes: &Boxes, lent: &Lent, masking: &Masking) -> State {
+    add(&encrypt(boxes, lent.schedule.lent(), &lent.input.sixteen()), &masking.cover_of_result())
+}
+
+fn covered_record(boxes: &Boxes, lent: &Lent, masking: &Masking) -> Vec<State> {
+    let plain = record(boxes, lent.schedule.lent(), &lent.input.sixteen());
+    plain.iter().zip(masking.masks_at_points()).map(|(state, mask)| add(state, &mask)).collect()
+}
+
+fn library_published(l: &mut Lent) -> Answer {
+    number(calls::encrypt_published(l.schedule.lent(), l.input.lent(), l.output.lent_mut(), l.offset, l.form))
+}
+
+fn library_masked(l: &mut Lent) -> Answer {
+    let masks = l.masks.lent();
+    number(calls::encrypt_masked(l.schedule.lent(), l.input.lent(), l.output.lent_mut(), masks, l.offset, l.form))
+}
+
+fn library_recorded(l: &mut Lent) -> Answer {
+    let masks = l.masks.lent();
+    number(calls::record_masked(l.schedule.lent(), l.input.lent(), masks, l.offset, l.states.lent_mut()))
+}
+
+pub const CALLS: &[Call] = &[
+    Call {
+        name: "expand_key",
+        method: "KEYEXPANSION",
+        refusals: &[1, 2],
+        library: |l| number(calls::expand_key(l.key.lent(), l.schedule.lent_mut())),
+        reference: |b, l| write(&mut l.schedule, &expand_key(b, l.key.lent())),
+    },
+    Call {
+        name: "encrypt",
+        method: "CIPHER",
+        refusals: &[2, 3, 4],
+        library: |l| number(calls::encrypt(l.schedule.lent(), l.input.lent(), l.output.lent_mut())),
+        reference: |b, l| write(&mut l.output, &encrypt(b, l.schedule.lent(), &l.input.sixteen())),
+    },
+    Call {
+        name: "decrypt",
+        method: "INVCIPHER",
+        refusals: &[2, 3, 4],
+        library: |l| number(calls::decrypt(l.schedule.lent(), l.input.lent(), l.output.lent_mut())),
+        reference: |b, l| write(&mut l.output, &decrypt(b, l.schedule.lent(), &l.input.sixteen())),
+    },
+    Call {
+        name: "record_plain",
+        method: "states of CIPHER",
+        refusals: &[2, 3, 8],
+        library: |l| number(calls::record_plain(l.schedule.lent(), l.input.lent(), l.states.lent_mut())),
+        reference: |b, l| {
+            let states = record(b, l.schedule.lent(), &l.input.sixteen());
+            write(&mut l.states, &states.concat())
+        },
+    },
+    Call {
+        name: "encrypt_published",
+        method: "masked run",
+        refusals: &[2, 3, 4, 6, 7],
+        library: library_published,
+        reference: |b, l| {
+            let states = run(b, l, &published(l));
+            write(&mut l.output, &states[70])
+        },
+    },
+    Call {
+        name: "encrypt_published",
+        method: "covered CIPHER",
+        refusals: &[2, 3, 4, 6, 7],
+        library: library_published,
+        reference: |b, l| {
+            let block = covered_cipher(b, l, &published(l));
+            write(&mut l.output, &block)
+        },
+    },
+    Call {
+        name: "encrypt_masked",
+        method: "masked run",
+        refusals: &[2, 3, 4, 5, 6, 7],
+        library: library_masked,
+        reference: |b, l| {
+            let states = run(b, l, &any_masks(l));
+            write(&mut l.output, &states[70])
+        },
+    },
+    Call {
+        name: "encrypt_masked",
+        method: "covered CIPHER",
+        refusals: &[2, 3, 4, 5, 6, 7],
+        library: library_masked,
+        reference: |b, l| {
+            let block = covered_cipher(b, l, &any_masks(l));
+            write(&mut l.output, &block)
+        },
+    },
+    Call {
+        name: "record_masked",
+        method: "masked run",
+        refusals: &[2, 3, 5, 6, 8],
+        library: library_recorded,
+        reference: |b, l| {
+            let states = run(b, l, &form_0(l));
+            write(&mut l.states, &states.concat())
+        },
+    },
+    Call {
+        name: "record_masked",
+        method: "covered states of CIPHER",
+        refusals: &[2, 3, 5, 6, 8],
+        library: library_recorded,
+        reference: |b, l| {
+            let states = covered_record(b, l, &form_0(l));
+            write(&mut l.states, &states.concat())
+        },
+    },
+    Call {
+        name: "read_sheet",
+        method: "the sheet's last sixteen",
+        refusals: &[11, 12, 13, 5],
+        library: |l| number(calls::read_sheet(l.sheet.lent(), l.masks.lent_mut())),
+        reference: |_, l| write(&mut l.masks, &l.sheet.lent()[5..]),
+    },
+    Call {
+        name: "write_sheet",
+        method: "mark, version and masks",
+        refusals: &[11, 5],
+        library: |l| number(calls::write_sheet(l.masks.lent(), l.blank.lent_mut())),
+        reference: |_, l| write(&mut l.blank, &sheet::written(l.masks.lent())),
+    },
+    Call {
+        name: "fitness",
+        method: "each against those before",
+        refusals: &[5],
+        library: |l| packed(calls::fitness(l.masks.lent())),
+        reference: |_, l| sheet::fitness(l.masks.lent()),
+    },
+];
