@@ -110,8 +110,7 @@ turns-length (suc n) = simp (length-append) (omega (arith, turns-length n))
 
 module _ {f : Point → List ℕ → List ℕ} (h : Sized f) {s : List ℕ} (l : length s ≡ 16) where
   -- the block, a round more in the 80 bytes behind what is written, and all of them
-  pub written-block : {t ys : List ℕ} (xs : List ℕ) → length xs ≡ 1136 → t ≡ f block s → ys ≡ t → Written f s 1136 (block ∷ turns 0) t (back xs 0 16 ys)
-  unfolding turns
+  pub written-block : {t ys : List ℕ} (xs : List ℕ) → length xs ≡ 1136 → t ≡ f block s → ys ≡ t → Written f s 1136 (block ∷ []) t (back xs 0 16 ys)
   written-block xs room et ey = written-step h l (written-none f s 1136 xs room) block 0 16 refl refl (lit≤ tt) (lit≤ tt) et ey
 
   pub written-round : {t t′ xs ys : List ℕ} (r : ℕ) → r < 14 → Written f s 1136 (block ∷ turns r) t xs → Recorded f t (five r) t′ ys

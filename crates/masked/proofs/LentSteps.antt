@@ -3,11 +3,11 @@
 use mathlib.Core.Path.{_≡_, refl, sym, ap, _∙_}
 use mathlib.Core.Bool.{Bool, true, false, cond, not, _&&_}
 use mathlib.Core.List.{List, [], _∷_, _++_}
-use Prim.Native.Nat.{ℕ, zero, suc, _+_, _-_, _*_, _/_, _%_, _<_}
+use Prim.Native.Nat.{ℕ, zero, suc, _+_, _-_, _*_, _/_, _%_, _<_, _≤_}
 use native.Mathlib.Nat.{add-zero}
 use native.Mathlib.Numerals.{add-one}
 use native.Mathlib.Omega.{arith}
-use lib.Dec.{T, eqb, eqb→eq}
+use lib.Dec.{T, eqb, eqb→eq, lit≤}
 use lib.ListN.{length, length-append, getD}
 use mir.Facts.{and-yes, no-eqb}
 use Rattle.aes.specs.Byte.{_⊕_, table}
@@ -15,14 +15,14 @@ use Rattle.aes.specs.Field.{xTimes}
 use Rattle.aes.specs.Box.{sBox}
 use Rattle.aes.specs.State.{at, shiftRows, addRoundKey, Bytes}
 use Rattle.aes.specs.Lent.{mixedBy}
-use Rattle.aes.specs.Record.{Point, block, keyed, boxed, shifted, mixed, compensated, closed, uncovered, final, wholes, five, points, run, last}
+use Rattle.aes.specs.Record.{Point, block, keyed, boxed, shifted, mixed, compensated, closed, uncovered, final, wholes, five, points, run, last, bytes}
 use Rattle.aes.proofs.Xor.{xor-byte}
 use Rattle.aes.proofs.Listed.{table-same}
 use Rattle.aes.proofs.Boxes.{sBox-byte}
 use Rattle.aes.proofs.Steps.{mix-lent}
 use Rattle.aes.proofs.Undo.{state-bytes, add-bytes, key-bytes, shift-bytes, mix-bytes}
 use Rattle.aes.proofs.Part.{back}
-use Rattle.aes.proofs.Written.{Sized, Written, written-step, run-append, last-append}
+use Rattle.aes.proofs.Written.{Sized, Written, written-block, written-step, written-all, run-append, last-append}
 use Rattle.masked.specs.Mask.{_⊞_, maskByte, mask, maskedBox, maskedBoxes, compensation, allCompensations, ending}
 use Rattle.masked.specs.Run.{covered, maskedRecord}
 use Rattle.masked.specs.Lent.{boxedBy, steps, pointAfter}
@@ -71,7 +71,7 @@ other false p q t = refl
 pub not-last : (r : ℕ) (p q : Point) → (r ≡ 13 → ⊥) → cond (eqb r 13) p q ≡ q
 not-last r p q h = other (eqb r 13) p q (no-eqb h)
 
-pub after-all : block ∷ after 70 ≡ points 14
+after-all : block ∷ after 70 ≡ points 14
 unfolding after pointAfter points wholes
 after-all = refl
 
@@ -79,7 +79,7 @@ after-more : (n : ℕ) → after (n + 1) ≡ after n ++ (pointAfter n ∷ [])
 unfolding after
 after-more n = rw add-one
 
-pub after-length : (n : ℕ) → 16 * length (block ∷ after n) ≡ 16 * n + 16
+after-length : (n : ℕ) → 16 * length (block ∷ after n) ≡ 16 * n + 16
 unfolding after
 after-length zero = refl
 after-length (suc n) = simp (length-append) (omega (arith, after-length n))
@@ -91,6 +91,24 @@ pub after-written : {f : Point → List ℕ → List ℕ} → Sized f → {s t t
 after-written size l n lt w et ey =
     rw after-more
     (written-step size l w (pointAfter n) (16 * n + 16) (16 * n + 16 + 16) (after-length n) (omega arith) (omega arith) (omega arith) et ey)
+
+-- what is known of the record after n of the seventy points behind the block
+pub recorded-so-far : {f : Point → List ℕ → List ℕ} {s t xs : List ℕ} {n : ℕ} → n ≤ 70 → length s ≡ 16 → Written f s 1136 (block ∷ after n) t xs
+    → (n ≤ 70) × (length s ≡ 16) × (length xs ≡ 1136) × Written f s 1136 (block ∷ after n) t xs
+recorded-so-far le l w = (le, l, w .held .size, w)
+
+-- before the first of them the covered block stands in it
+pub recorded-block : {f : Point → List ℕ → List ℕ} → Sized f → {s t ys : List ℕ} → length s ≡ 16 → (xs : List ℕ) → length xs ≡ 1136 → t ≡ f block s → ys ≡ t
+    → (0 ≤ 70) × (length s ≡ 16) × (length (back xs 0 16 ys) ≡ 1136) × Written f s 1136 (block ∷ after 0) t (back xs 0 16 ys)
+unfolding after
+recorded-block h l xs room et ey = recorded-so-far (lit≤ tt) l (written-block h l xs room et ey)
+
+-- and what it is after all of them
+pub recorded-all : {f : Point → List ℕ → List ℕ} → Sized f → {s t xs : List ℕ} (n : ℕ) → n ≤ 70 → 70 ≤ n → length s ≡ 16
+    → Written f s 1136 (block ∷ after n) t xs → xs ≡ bytes (run f s (points 14))
+recorded-all h n le ge l w =
+    let e : n ≡ 70 = omega (arith, le, ge) in
+    written-all h l (rw (e, after-all) at w) (sym (ap (λ (ps : List Point). 16 * length ps) after-all) ∙ after-length 70) .held
 
 -- labels are counted modulo 16
 mask-turn : (M : List ℕ) (o : ℕ) → mask M (o % 16) ≡ mask M o

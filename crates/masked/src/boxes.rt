@@ -297,11 +297,27 @@ fn fill(sbox: &[u8; 256], from: u8, to: u8, part: &mut [u8])
     requires { ⌜ (now sbox ≡ table sBox 256) × (length (now part) ≡ 256) ⌝ }
     ensures { λ _. ⌜ now (part .exit) ≡ table (λ x. sBox (x ⊕ «from») ⊕ to) 256 ⌝ }
 {
+    let given = under(sbox, to);
+    let taken = from as usize;
     let mut x = 0;
     while x < 256 {
-        part[x] = tables::entry(sbox, x as u8 ^ from) ^ to;
+        part[x] = given[x ^ taken];
         x += 1;
     }
+}
+
+// S under the mask of what a box gives: so sixteen bytes are covered at once.
+fn under(sbox: &[u8; 256], to: u8) -> [u8; 256]
+    requires { ⌜ now sbox ≡ table sBox 256 ⌝ }
+    ensures { λ r. ⌜ r ≡ table (λ x. sBox x ⊕ to) 256 ⌝ }
+{
+    let mut r = [0u8; 256];
+    let mut x = 0;
+    while x < 256 {
+        r[x] = sbox[x] ^ to;
+        x += 1;
+    }
+    r
 }
 
 // What the box with a label answers to a covered byte.

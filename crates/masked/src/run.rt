@@ -39,7 +39,11 @@ pub(crate) fn recorded(
 {
     let doubles = tables::doubles();
     let end = ending(0, masks, offset);
-    let mut s = covered(input, masks, offset, &mut states[0..16]);
+    let mut s = cover(
+        sixteen(input, 0),
+        mask(masks, Label::make(offset, Round::FIRST)),
+        &mut states[0..16],
+    );
     let mut n = 0;
     while n < 70 {
         let a = 16 * n + 16;
@@ -60,7 +64,7 @@ pub(crate) fn recorded(
     }
 }
 
-// The finished block alone, in either form. The first step and the last two are lent the output.
+// The finished block alone, in either form. The last two steps are lent the output, and all before them a scratch.
 pub(crate) fn unrecorded(
     input: &[u8],
     w: &[u8],
@@ -76,7 +80,8 @@ pub(crate) fn unrecorded(
 {
     let doubles = tables::doubles();
     let end = ending(form, masks, offset);
-    let mut s = covered(input, masks, offset, output);
+    let mut part = [0u8; 16];
+    let mut s = covered(input, masks, offset, &mut part);
     let mut r = 0;
     while r < 14 {
         let t = half(s, w, boxes, offset, Round::number(r));
@@ -91,7 +96,7 @@ pub(crate) fn unrecorded(
     }
 }
 
-// The block under the first mask.
+// The block under the first mask, where nothing is recorded. It has one caller, as the parts of a round have.
 fn covered(input: &[u8], masks: [u8; 16], offset: u8, part: &mut [u8]) -> [u8; 16]
     requires { ⌜ (length (now input) ≡ 16) × (length (now part) ≡ 16) ⌝ }
     ensures { λ t. ⌜ (t ≡ now (input .entry) ⊞ mask masks ((offset + 0) % 16)) × (now (part .exit) ≡ t) ⌝ }

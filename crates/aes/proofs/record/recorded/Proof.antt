@@ -21,7 +21,7 @@ abbrev μ-loop : tie.MeasureT-loop
 μ-loop w sbox doubles states₀ s₀ r₀ states s r = 14 - r
 
 begin : tie.Need-loop-holds Inv-loop μ-loop
-unfolding plain
+unfolding plain turns
 begin c =
     let kept = c .before .before in
     let start = kept .before .before .before .before in

@@ -12,7 +12,6 @@ use Rattle.aes.specs.Lent.{mixedBy}
 use Rattle.aes.specs.Record.{block, whole, final, wholes, points, run, last}
 use Rattle.aes.proofs.Given.{array-bytes}
 use Rattle.aes.proofs.Steps.{byte}
-use Rattle.aes.proofs.Undo.{add-size}
 use Rattle.aes.proofs.Written.{wholes-more}
 use Rattle.masked.specs.Mask.{_⊞_}
 use Rattle.masked.specs.Run.{maskedCipher}
@@ -30,9 +29,7 @@ abbrev μ-loop : tie.MeasureT-loop
 
 begin : tie.Need-loop-holds Inv-loop μ-loop
 unfolding wholes run last steps
-begin c =
-    let covered = c .before .before .covered .ensures in
-    (search needs, ap length (covered .1 ∙ covered .0) ∙ add-size _ _, refl)
+begin c = (search needs, c .before .before .before .before .before .before .before .before .pre .4, refl)
 
 not-last : (r : ℕ) → r < 14 → (r ≡ 13 → ⊥) → r + 1 ≤ 13
 not-last r lt other = omega arith
@@ -47,7 +44,7 @@ again c =
     let in-loop = first .before in
     let at-loop = in-loop .before in
     let l = at-loop .loop in
-    let covering = at-loop .before .before .before in
+    let covering = at-loop .before .before in
     let uncovering = covering .before .before in
     let end : List ℕ = uncovering .ending .result in
     let doubles = uncovering .before in
@@ -71,7 +68,7 @@ returns c =
     let first = half .before in
     let at-loop = first .before .before in
     let l = at-loop .loop in
-    let covering = at-loop .before .before .before in
+    let covering = at-loop .before .before in
     let uncovering = covering .before .before in
     let doubles = uncovering .before in
     let known = doubles .before .before in
@@ -103,4 +100,4 @@ returns-2 c = absurd (never (c .before .loop .r) (c .before .loop .inv .0) (c .l
 pub unrecorded-spec : {M : Type 1} → statement M
 unrecorded-spec =
     tie.close
-    (tie.spec Inv-loop μ-loop (λ c κs. search needs) (λ c κs. search needs) (λ c κs. search needs) begin (λ c κs. search needs) (λ c κs. search needs) (λ c κs. search needs) (λ c κs. search needs) (λ c. search needs) returns (λ c κs. search needs) (λ c κs. search needs) (λ c. search needs) (λ c. search needs) again (λ c. search needs) returns-2)
+    (tie.spec Inv-loop μ-loop (λ c κs. search needs) (λ c κs. search needs) (λ c. search needs) (λ c κs. search needs) begin (λ c κs. search needs) (λ c κs. search needs) (λ c κs. search needs) (λ c κs. search needs) (λ c. search needs) returns (λ c κs. search needs) (λ c κs. search needs) (λ c. search needs) (λ c. search needs) again (λ c. search needs) returns-2)
