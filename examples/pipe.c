@@ -1,0 +1,113 @@
+/*
+ * A pipe's key is one AES-256 block, made twice: at the rack by the plain engine, and in the module by the masked one, at an
+ * offset from 0 to 15. Here both make it from the key and the block of FIPS 197, C.3, and must come to the ciphertext there.
+ *
+ *     cc pipe.c $(pkg-config --cflags --libs slipgrease) -o pipe && ./pipe
+ */
+#include <slipgrease.h>
+
+#include <stdio.h>
+#include <stdlib.h>
+#include <string.h>
+
+/* FIPS 197, C.3: the block and its ciphertext. The key is 00 01 02 .. 1f. */
+static const uint8_t block[SLIPGREASE_BLOCK_BYTES] = {
+    0x00, 0x11, 0x22, 0x33, 0x44, 0x55, 0x66, 0x77, 0x88, 0x99, 0xaa, 0xbb, 0xcc, 0xdd, 0xee, 0xff};
+static const uint8_t standard[SLIPGREASE_BLOCK_BYTES] = {
+    0x8e, 0xa2, 0xb7, 0xca, 0x51, 0x67, 0x45, 0xbf, 0xea, 0xfc, 0x49, 0x90, 0x4b, 0x49, 0x60, 0x89};
+
+/* The published masks, which slipgrease_encrypt_published uses. They are needed here to uncover a block of form 1. */
+static const uint8_t masks[SLIPGREASE_MASKS_BYTES] = {
+    0x00, 0x0f, 0x36, 0x39, 0x53, 0x5c, 0x65, 0x6a, 0x95, 0x9a, 0xa3, 0xac, 0xc6, 0xc9, 0xf0, 0xff};
+
+static void print_block(const char *name, const uint8_t *bytes)
+{
+    printf("%-21s", name);
+    for (size_t i = 0; i < SLIPGREASE_BLOCK_BYTES; i++)
+        printf("%02x", bytes[i]);
+    printf("\n");
+}
+
+/* What a host does with a reply: it goes on, or blames the caller or the data. */
+static const char *sorted(uint8_t reply)
+{
+    switch (slipgrease_sort_reply(reply)) {
+    case SLIPGREASE_GO_ON:
+        return "go on";
+    case SLIPGREASE_CALLER_FAULT:
+        return "caller fault";
+    default:
+        return "data fault";
+    }
+}
+
+/* Every reply is looked at: a refused call has written nothing, so its buffer holds whatever it held before. */
+static void must_be_done(uint8_t reply, const char *call)
+{
+    if (reply != SLIPGREASE_REPLY_DONE) {
+        fprintf(stderr, "%s is refused with %d, %s\n", call, reply, sorted(reply));
+        exit(EXIT_FAILURE);
+    }
+}
+
+static void must(int holds, const char *what)
+{
+    if (!holds) {
+        fprintf(stderr, "it should be that %s\n", what);
+        exit(EXIT_FAILURE);
+    }
+}
+
+static int same(const uint8_t *a, const uint8_t *b)
+{
+    return memcmp(a, b, SLIPGREASE_BLOCK_BYTES) == 0;
+}
+
+int main(void)
+{
+    uint8_t key[SLIPGREASE_KEY_BYTES], schedule[SLIPGREASE_SCHEDULE_BYTES], rack[SLIPGREASE_BLOCK_BYTES];
+    uint8_t reply, offset;
+
+    /* The key is expanded once; its schedule serves every block. */
+    for (uint8_t i = 0; i < sizeof key; i++)
+        key[i] = i;
+    reply = slipgrease_expand_key(key, sizeof key, schedule, sizeof schedule);
+    must_be_done(reply, "expand_key");
+
+    /* At the rack. */
+    reply = slipgrease_encrypt(schedule, sizeof schedule, block, sizeof block, rack, sizeof rack);
+    must_be_done(reply, "encrypt");
+    must(same(rack, standard), "the rack makes the ciphertext of the standard");
+    print_block("rack", rack);
+
+    /* In the module, in form 0: the same key at every offset. */
+    for (offset = 0; offset < 16; offset++) {
+        uint8_t module[SLIPGREASE_BLOCK_BYTES] = {0};
+        char name[32];
+        reply = slipgrease_encrypt_published(schedule, sizeof schedule, block, sizeof block, module, sizeof module, offset, 0);
+        must_be_done(reply, "encrypt_published");
+        must(same(module, rack), "the module makes the key of the rack");
+        snprintf(name, sizeof name, "module, offset %d", offset);
+        print_block(name, module);
+    }
+
+    /* There is no offset 16. The call is refused with a number of its own, and its buffer is as it was. */
+    uint8_t refused[SLIPGREASE_BLOCK_BYTES] = {0}, zeros[SLIPGREASE_BLOCK_BYTES] = {0};
+    reply = slipgrease_encrypt_published(schedule, sizeof schedule, block, sizeof block, refused, sizeof refused, 16, 0);
+    must(reply == SLIPGREASE_REPLY_OFFSET_RANGE, "offset 16 is refused with its own number");
+    must(slipgrease_sort_reply(reply) == SLIPGREASE_CALLER_FAULT, "a wrong offset is a caller fault");
+    must(same(refused, zeros), "a refused call has written nothing");
+    printf("%-21srefused with %d, %s\n", "module, offset 16", reply, sorted(reply));
+
+    /* An early module asks for form 1, whose block is still covered: byte i by M(offset + 14 + i), labels modulo 16. */
+    uint8_t early[SLIPGREASE_BLOCK_BYTES] = {0};
+    offset = 5;
+    reply = slipgrease_encrypt_published(schedule, sizeof schedule, block, sizeof block, early, sizeof early, offset, 1);
+    must_be_done(reply, "encrypt_published, form 1");
+    print_block("form 1, offset 5", early);
+    for (size_t i = 0; i < sizeof early; i++)
+        early[i] ^= masks[(offset + 14 + i) % 16];
+    must(same(early, rack), "a block of form 1, uncovered, is the key of the rack");
+    print_block("form 1, uncovered", early);
+    return EXIT_SUCCESS;
+}

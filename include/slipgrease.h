@@ -1,0 +1,257 @@
+/*
+ * Slipgrease: AES-256 by a plain engine, for the rack, and by a masked engine, for the module. Both are in one archive,
+ * libslipgrease.a, of code that is proved to do what is said here. This header is the manual of its C names.
+ *
+ *     cc pipe.c $(pkg-config --cflags --libs slipgrease)
+ *
+ * What is proved
+ *   Every call ends, and gives for every input the one answer that its promise names: one reply, and one final content of the
+ *   buffer that it writes. It reads and writes no byte of its caller's but those that it is lent. A call that is refused has
+ *   written nothing. The promises are in docs/PROMISES.md of the sources, a row for each call; below they stand in words.
+ *
+ * What the caller guarantees
+ *   A buffer is two arguments: a pointer, and its length in bytes. So many bytes are there and may be read; where the pointer's
+ *   name ends in _out, they may be written. What an _out buffer holds before the call does not matter.
+ *   A buffer that is written shares no byte with another buffer of the same call, so nothing is encrypted in place. The same
+ *   buffer may be lent twice for reading.
+ *   Until the call returns, no other thread writes a buffer that it was lent, or reads its _out buffer. No call keeps
+ *   anything for the next one, so threads may call at the same time.
+ *   Nothing else is asked. Every length, alignment, content and number is allowed, and has its answer.
+ *
+ * Wrong lengths and null pointers
+ *   A length that is not the one named below is refused, and not a byte of that buffer is touched. No call takes length 0, so
+ *   a null pointer of length 0 is refused like any other wrong length. (That a null pointer does no harm is tested on the
+ *   compiled code; the proofs speak of buffers that are there.)
+ *
+ * What is assumed
+ *   The Rattle compiler and prover, LLVM, the C compiler and linker, memcpy and memset of the C library, and the machine. The
+ *   code is for x86-64 and the System V calling convention. It is position independent. That this header and the proved
+ *   functions say the same is not proved, but compared by a program (tools/header of the sources).
+ *
+ * What is not claimed
+ *   Nothing about power, time, caches or any other side of a running machine. Nothing is wiped: a call leaves its working
+ *   values on the stack. No mode of operation is here and no other key length, and no offset is drawn: that is the caller's.
+ */
+#ifndef SLIPGREASE_H
+#define SLIPGREASE_H
+
+#include <stddef.h>
+#include <stdint.h>
+
+#ifdef __cplusplus
+extern "C" {
+#endif
+
+#define SLIPGREASE_VERSION "0.1.0"
+
+/*
+ * The replies. 0 is the only one of a call that was done; a refusal is named after what is wrong. Each call has the list of its
+ * refusals, their names without SLIPGREASE_REPLY_. Where several apply, the one is given that stands first in that list.
+ */
+#define SLIPGREASE_REPLY_DONE 0             /* done */
+#define SLIPGREASE_REPLY_KEY_LENGTH 1       /* the key is not 32 bytes */
+#define SLIPGREASE_REPLY_SCHEDULE_LENGTH 2  /* the schedule, or the buffer for it, is not 240 bytes */
+#define SLIPGREASE_REPLY_INPUT_LENGTH 3     /* the input block is not 16 bytes */
+#define SLIPGREASE_REPLY_OUTPUT_LENGTH 4    /* the buffer for the output block is not 16 bytes */
+#define SLIPGREASE_REPLY_MASKS_LENGTH 5     /* the mask table, or the buffer for it, is not 16 bytes */
+#define SLIPGREASE_REPLY_OFFSET_RANGE 6     /* the offset is above 15 */
+#define SLIPGREASE_REPLY_FORM_UNKNOWN 7     /* the form is neither 0 nor 1 */
+#define SLIPGREASE_REPLY_RECORD_LENGTH 8    /* the buffer for the record is not 1,136 bytes */
+#define SLIPGREASE_REPLY_NO_LOGARITHM 9     /* 00 has no logarithm */
+#define SLIPGREASE_REPLY_POWER_RANGE 10     /* the power is above 254 */
+#define SLIPGREASE_REPLY_SHEET_LENGTH 11    /* the sheet, or the buffer for it, is not 21 bytes */
+#define SLIPGREASE_REPLY_MARK_WRONG 12      /* the sheet does not begin with "MSK" */
+#define SLIPGREASE_REPLY_VERSION_UNKNOWN 13 /* the sheet's version is not 1 */
+
+/* The lengths that the calls take. */
+#define SLIPGREASE_KEY_BYTES 32
+#define SLIPGREASE_SCHEDULE_BYTES 240
+#define SLIPGREASE_BLOCK_BYTES 16
+#define SLIPGREASE_MASKS_BYTES 16
+#define SLIPGREASE_RECORD_BYTES 1136
+#define SLIPGREASE_SHEET_BYTES 21
+
+/* A record is so many states of a block's size. */
+#define SLIPGREASE_STATES 71
+
+/* What slipgrease_sort_reply answers. */
+#define SLIPGREASE_GO_ON 0
+#define SLIPGREASE_CALLER_FAULT 1
+#define SLIPGREASE_DATA_FAULT 2
+
+/* Some calls answer a reply and a value in one number, reply * 256 + value. These give the one and the other. */
+#define SLIPGREASE_NUMBER(x) ((uint8_t)((x) >> 8))
+#define SLIPGREASE_VALUE(x) ((uint8_t)((x) & 0xff))
+
+/* ---- The rack's engine ---- */
+
+/*
+ * Expands a key: KEYEXPANSION of FIPS 197 for AES-256. Round key k is at byte 16 * k of the schedule.
+ * Reads key, 32 bytes. Writes schedule_out, 240 bytes.
+ * Refusals: 1 KEY_LENGTH, 2 SCHEDULE_LENGTH.
+ */
+uint8_t slipgrease_expand_key(
+    const uint8_t *key, size_t key_len,
+    uint8_t *schedule_out, size_t schedule_len);
+
+/*
+ * Encrypts one block: CIPHER of FIPS 197, fourteen rounds. Any 240 bytes are taken as a schedule.
+ * Reads schedule, 240 bytes, and input, 16 bytes. Writes output_out, 16 bytes.
+ * Refusals: 2 SCHEDULE_LENGTH, 3 INPUT_LENGTH, 4 OUTPUT_LENGTH.
+ */
+uint8_t slipgrease_encrypt(
+    const uint8_t *schedule, size_t schedule_len,
+    const uint8_t *input, size_t input_len,
+    uint8_t *output_out, size_t output_len);
+
+/*
+ * Decrypts one block: INVCIPHER of FIPS 197, fourteen rounds. It undoes slipgrease_encrypt with the same schedule, whichever
+ * 240 bytes that is, and is undone by it.
+ * Reads schedule, 240 bytes, and input, 16 bytes. Writes output_out, 16 bytes.
+ * Refusals: 2 SCHEDULE_LENGTH, 3 INPUT_LENGTH, 4 OUTPUT_LENGTH.
+ */
+uint8_t slipgrease_decrypt(
+    const uint8_t *schedule, size_t schedule_len,
+    const uint8_t *input, size_t input_len,
+    uint8_t *output_out, size_t output_len);
+
+/*
+ * Encrypts one block and records the state at each of 71 points. State s is at byte 16 * s of the record.
+ *
+ *     state                    plain: the state of CIPHER          masked: the plain state, xored with
+ *     0                        at the beginning: the block         Mask(o)
+ *     5r + 1    r = 0 .. 13    after round key r                   Mask(o+r)
+ *     5r + 2    r = 0 .. 13    after the S-boxes                   Mask(o+r+1)
+ *     5r + 3    r = 0 .. 13    after ShiftRows                     ShiftRows(Mask(o+r+1))
+ *     5r + 4    r = 0 .. 12    after MixColumns                    MixColumns(ShiftRows(Mask(o+r+1)))
+ *     5r + 5    r = 0 .. 12    the same (after compensation)       Mask(o+r+1)
+ *     69                       after round key 14                  ShiftRows(Mask(o+14))
+ *     70                       the same: what encrypt writes       nothing
+ *
+ * The last column is of slipgrease_record_masked. No other output block is written.
+ * Reads schedule, 240 bytes, and input, 16 bytes. Writes record_out, 1,136 bytes.
+ * Refusals: 2 SCHEDULE_LENGTH, 3 INPUT_LENGTH, 8 RECORD_LENGTH.
+ */
+uint8_t slipgrease_record_plain(
+    const uint8_t *schedule, size_t schedule_len,
+    const uint8_t *input, size_t input_len,
+    uint8_t *record_out, size_t record_len);
+
+/* ---- The module's engine ---- */
+
+/*
+ * A mask table is sixteen bytes, M(0) to M(15). Mask(o) is the sixteen bytes with M(o+i) at byte i, all labels modulo 16; it
+ * lies over the state when a run at offset o begins. An offset is 0 to 15. The published masks are
+ *     00 0f 36 39 53 5c 65 6a 95 9a a3 ac c6 c9 f0 ff
+ * Form 0 is the standard: it ends with the ciphertext of slipgrease_encrypt, at every offset and with any masks. Form 1 is
+ * that of the early modules: its block is the ciphertext xored with Mask(o+14), so it is still covered.
+ */
+
+/*
+ * Encrypts one block under the published masks, by stored boxes.
+ * Reads schedule, 240 bytes, and input, 16 bytes. Writes output_out, 16 bytes.
+ * Refusals: 2 SCHEDULE_LENGTH, 3 INPUT_LENGTH, 4 OUTPUT_LENGTH, 6 OFFSET_RANGE, 7 FORM_UNKNOWN.
+ */
+uint8_t slipgrease_encrypt_published(
+    const uint8_t *schedule, size_t schedule_len,
+    const uint8_t *input, size_t input_len,
+    uint8_t *output_out, size_t output_len,
+    uint8_t offset, uint8_t form);
+
+/*
+ * Encrypts one block under any sixteen masks, fit or not; their boxes are worked out first.
+ * Reads schedule, 240 bytes, input, 16 bytes, and masks, 16 bytes. Writes output_out, 16 bytes.
+ * Refusals: 2 SCHEDULE_LENGTH, 3 INPUT_LENGTH, 4 OUTPUT_LENGTH, 5 MASKS_LENGTH, 6 OFFSET_RANGE, 7 FORM_UNKNOWN.
+ */
+uint8_t slipgrease_encrypt_masked(
+    const uint8_t *schedule, size_t schedule_len,
+    const uint8_t *input, size_t input_len,
+    uint8_t *output_out, size_t output_len,
+    const uint8_t *masks, size_t masks_len,
+    uint8_t offset, uint8_t form);
+
+/*
+ * Encrypts one block under any sixteen masks in form 0, and records the state at each of the 71 points that
+ * slipgrease_record_plain has. Each is the plain state under the mask that the table there names. No other output block is
+ * written.
+ * Reads schedule, 240 bytes, input, 16 bytes, and masks, 16 bytes. Writes record_out, 1,136 bytes.
+ * Refusals: 2 SCHEDULE_LENGTH, 3 INPUT_LENGTH, 5 MASKS_LENGTH, 6 OFFSET_RANGE, 8 RECORD_LENGTH.
+ */
+uint8_t slipgrease_record_masked(
+    const uint8_t *schedule, size_t schedule_len,
+    const uint8_t *input, size_t input_len,
+    const uint8_t *masks, size_t masks_len,
+    uint8_t offset,
+    uint8_t *record_out, size_t record_len);
+
+/*
+ * Reads the sixteen masks of a sheet, which is 4d 53 4b ("MSK"), the version 00 01 and the masks.
+ * Reads sheet, 21 bytes. Writes masks_out, 16 bytes.
+ * Refusals: 11 SHEET_LENGTH, 12 MARK_WRONG, 13 VERSION_UNKNOWN, 5 MASKS_LENGTH.
+ */
+uint8_t slipgrease_read_sheet(
+    const uint8_t *sheet, size_t sheet_len,
+    uint8_t *masks_out, size_t masks_len);
+
+/*
+ * Writes the sheet of sixteen masks, fit or not.
+ * Reads masks, 16 bytes. Writes sheet_out, 21 bytes.
+ * Refusals: 11 SHEET_LENGTH, 5 MASKS_LENGTH.
+ */
+uint8_t slipgrease_write_sheet(
+    const uint8_t *masks, size_t masks_len,
+    uint8_t *sheet_out, size_t sheet_len);
+
+/* ---- Beside the engines ---- */
+
+/*
+ * Tests a mask table: value 1 where its sixteen bytes are all different, else value 0. Answers reply * 256 + value; beside a
+ * refusal the value is 0.
+ * Reads masks, 16 bytes.
+ * Refusals: 5 MASKS_LENGTH.
+ */
+uint16_t slipgrease_fitness(const uint8_t *masks, size_t masks_len);
+
+/*
+ * Answers the product of a and b in the field of FIPS 197, modulo 11b.
+ * Refusals: none.
+ */
+uint8_t slipgrease_multiply(uint8_t a, uint8_t b);
+
+/*
+ * Answers the inverse of x in that field, and 00 for 00.
+ * Refusals: none.
+ */
+uint8_t slipgrease_inverse(uint8_t x);
+
+/*
+ * Answers reply * 256 + value, where 03 to the power of value is x. Beside the refusal of 00 the value is 0.
+ * Refusals: 9 NO_LOGARITHM.
+ */
+uint16_t slipgrease_logarithm(uint8_t x);
+
+/*
+ * Answers reply * 256 + value, where value is 03 to the power of n. Beside the refusal of 255 the value is 0.
+ * Refusals: 10 POWER_RANGE.
+ */
+uint16_t slipgrease_power(uint8_t n);
+
+/*
+ * Answers the inverse of a covered byte, covered: inverse(x xor r) xor r, where x is the byte under the mask r. It is worked
+ * out without xoring x and r.
+ * Refusals: none.
+ */
+uint8_t slipgrease_masked_inverse(uint8_t x, uint8_t r);
+
+/*
+ * Sorts a reply: SLIPGREASE_GO_ON for 0, SLIPGREASE_CALLER_FAULT for 1 to 8, SLIPGREASE_DATA_FAULT for 9 to 13, and
+ * SLIPGREASE_CALLER_FAULT for every number above.
+ * Refusals: none.
+ */
+uint8_t slipgrease_sort_reply(uint8_t number);
+
+#ifdef __cplusplus
+}
+#endif
+
+#endif

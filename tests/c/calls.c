@@ -1,0 +1,176 @@
+/*
+ * Every call of the header as a C compiler makes it, with answers of FIPS 197 and of the rules of the masks, and a null pointer
+ * of length 0 in the place of each buffer. How the calls answer in general is for the proofs and the second program.
+ *
+ * Usage: calls [NAME]. What is expected of the call NAME, which goes without slipgrease_, is spoiled: it must be found to differ.
+ * Prints a line for each difference, and fails if there is any.
+ */
+#include <slipgrease.h>
+
+#include <stdio.h>
+#include <string.h>
+
+/* A buffer and its length, and none. */
+#define LENT(buffer) buffer, sizeof buffer
+#define NONE NULL, 0
+
+/* A call and the number that it should answer; and one that should answer a reply and a value in one number. */
+#define CALL(call, expected, ...) number(#call, slipgrease_##call(__VA_ARGS__), expected)
+#define PACKED(call, reply, value, ...) packed(#call, slipgrease_##call(__VA_ARGS__), reply, value)
+
+static const char *spoiled = "";
+static int faults;
+
+static void number(const char *call, unsigned given, unsigned expected)
+{
+    if (strcmp(call, spoiled) == 0)
+        expected++;
+    if (given != expected) {
+        printf("%s: %u, and should be %u\n", call, given, expected);
+        faults = 1;
+    }
+}
+
+static void packed(const char *call, uint16_t given, unsigned reply, unsigned value)
+{
+    number(call, SLIPGREASE_NUMBER(given), reply);
+    number(call, SLIPGREASE_VALUE(given), value);
+}
+
+/* Sixteen bytes, which should have these hex digits. */
+static void block(const char *call, const uint8_t *given, const char *expected)
+{
+    char digits[33];
+    for (int i = 0; i < 16; i++)
+        sprintf(digits + 2 * i, "%02x", given[i]);
+    if (strcmp(call, spoiled) == 0)
+        expected = "spoiled";
+    if (strcmp(digits, expected) != 0) {
+        printf("%s: %s, and should be %s\n", call, digits, expected);
+        faults = 1;
+    }
+}
+
+/* FIPS 197, C.3, and the published masks. At offset 5 byte i of the block is covered by M(5 + i), of form 1 by M(5 + 14 + i). */
+static const char plaintext[] = "00112233445566778899aabbccddeeff";
+static const char ciphertext[] = "8ea2b7ca516745bfeafc49904b496089";
+static const char covered[] = "5c7448a6def6cab1416955bbc3ebd7ac";
+static const char form_1[] = "b7f1ebaf3bf2df1c463a8060b4496fbf";
+static const uint8_t masks[SLIPGREASE_MASKS_BYTES] = {
+    0x00, 0x0f, 0x36, 0x39, 0x53, 0x5c, 0x65, 0x6a, 0x95, 0x9a, 0xa3, 0xac, 0xc6, 0xc9, 0xf0, 0xff};
+
+static uint8_t key[SLIPGREASE_KEY_BYTES], w[SLIPGREASE_SCHEDULE_BYTES], in[SLIPGREASE_BLOCK_BYTES], out[SLIPGREASE_BLOCK_BYTES];
+static uint8_t record[SLIPGREASE_RECORD_BYTES], sheet[SLIPGREASE_SHEET_BYTES], table[SLIPGREASE_MASKS_BYTES];
+
+static void rack(void)
+{
+    for (int i = 0; i < 32; i++)
+        key[i] = (uint8_t)i;
+    for (int i = 0; i < 16; i++)
+        in[i] = (uint8_t)(0x11 * i);
+    CALL(expand_key, SLIPGREASE_REPLY_DONE, LENT(key), LENT(w));
+    block("expand_key", w + 16 * 14, "24fc79ccbf0979e9371ac23c6d68de36");
+    CALL(expand_key, SLIPGREASE_REPLY_KEY_LENGTH, NONE, LENT(w));
+    CALL(expand_key, SLIPGREASE_REPLY_SCHEDULE_LENGTH, LENT(key), NONE);
+
+    CALL(encrypt, SLIPGREASE_REPLY_DONE, LENT(w), LENT(in), LENT(out));
+    block("encrypt", out, ciphertext);
+    CALL(encrypt, SLIPGREASE_REPLY_SCHEDULE_LENGTH, NONE, LENT(in), LENT(out));
+    CALL(encrypt, SLIPGREASE_REPLY_INPUT_LENGTH, LENT(w), NONE, LENT(out));
+    CALL(encrypt, SLIPGREASE_REPLY_OUTPUT_LENGTH, LENT(w), LENT(in), NONE);
+
+    CALL(decrypt, SLIPGREASE_REPLY_DONE, LENT(w), LENT(out), LENT(table));
+    block("decrypt", table, plaintext);
+    CALL(decrypt, SLIPGREASE_REPLY_SCHEDULE_LENGTH, NONE, LENT(in), LENT(out));
+    CALL(decrypt, SLIPGREASE_REPLY_INPUT_LENGTH, LENT(w), NONE, LENT(out));
+    CALL(decrypt, SLIPGREASE_REPLY_OUTPUT_LENGTH, LENT(w), LENT(in), NONE);
+
+    CALL(record_plain, SLIPGREASE_REPLY_DONE, LENT(w), LENT(in), LENT(record));
+    block("record_plain", record, plaintext);
+    block("record_plain", record + 16 * 1, "00102030405060708090a0b0c0d0e0f0");
+    block("record_plain", record + 16 * 2, "63cab7040953d051cd60e0e7ba70e18c");
+    block("record_plain", record + 16 * 3, "6353e08c0960e104cd70b751bacad0e7");
+    block("record_plain", record + 16 * 4, "5f72641557f5bc92f7be3b291db9f91a");
+    block("record_plain", record + 16 * (SLIPGREASE_STATES - 1), ciphertext);
+    CALL(record_plain, SLIPGREASE_REPLY_SCHEDULE_LENGTH, NONE, LENT(in), LENT(record));
+    CALL(record_plain, SLIPGREASE_REPLY_INPUT_LENGTH, LENT(w), NONE, LENT(record));
+    CALL(record_plain, SLIPGREASE_REPLY_RECORD_LENGTH, LENT(w), LENT(in), NONE);
+}
+
+static void module(void)
+{
+    CALL(encrypt_published, SLIPGREASE_REPLY_DONE, LENT(w), LENT(in), LENT(out), 5, 0);
+    block("encrypt_published", out, ciphertext);
+    CALL(encrypt_published, SLIPGREASE_REPLY_DONE, LENT(w), LENT(in), LENT(out), 5, 1);
+    block("encrypt_published", out, form_1);
+    CALL(encrypt_published, SLIPGREASE_REPLY_SCHEDULE_LENGTH, NONE, LENT(in), LENT(out), 5, 0);
+    CALL(encrypt_published, SLIPGREASE_REPLY_INPUT_LENGTH, LENT(w), NONE, LENT(out), 5, 0);
+    CALL(encrypt_published, SLIPGREASE_REPLY_OUTPUT_LENGTH, LENT(w), LENT(in), NONE, 5, 0);
+    CALL(encrypt_published, SLIPGREASE_REPLY_OFFSET_RANGE, LENT(w), LENT(in), LENT(out), 16, 0);
+    CALL(encrypt_published, SLIPGREASE_REPLY_FORM_UNKNOWN, LENT(w), LENT(in), LENT(out), 5, 2);
+
+    CALL(encrypt_masked, SLIPGREASE_REPLY_DONE, LENT(w), LENT(in), LENT(out), LENT(masks), 5, 0);
+    block("encrypt_masked", out, ciphertext);
+    CALL(encrypt_masked, SLIPGREASE_REPLY_DONE, LENT(w), LENT(in), LENT(out), LENT(masks), 5, 1);
+    block("encrypt_masked", out, form_1);
+    CALL(encrypt_masked, SLIPGREASE_REPLY_SCHEDULE_LENGTH, NONE, LENT(in), LENT(out), LENT(masks), 5, 0);
+    CALL(encrypt_masked, SLIPGREASE_REPLY_INPUT_LENGTH, LENT(w), NONE, LENT(out), LENT(masks), 5, 0);
+    CALL(encrypt_masked, SLIPGREASE_REPLY_OUTPUT_LENGTH, LENT(w), LENT(in), NONE, LENT(masks), 5, 0);
+    CALL(encrypt_masked, SLIPGREASE_REPLY_MASKS_LENGTH, LENT(w), LENT(in), LENT(out), NONE, 5, 0);
+    CALL(encrypt_masked, SLIPGREASE_REPLY_OFFSET_RANGE, LENT(w), LENT(in), LENT(out), LENT(masks), 16, 0);
+    CALL(encrypt_masked, SLIPGREASE_REPLY_FORM_UNKNOWN, LENT(w), LENT(in), LENT(out), LENT(masks), 5, 2);
+
+    CALL(record_masked, SLIPGREASE_REPLY_DONE, LENT(w), LENT(in), LENT(masks), 5, LENT(record));
+    block("record_masked", record, covered);
+    block("record_masked", record + 16 * (SLIPGREASE_STATES - 1), ciphertext);
+    CALL(record_masked, SLIPGREASE_REPLY_SCHEDULE_LENGTH, NONE, LENT(in), LENT(masks), 5, LENT(record));
+    CALL(record_masked, SLIPGREASE_REPLY_INPUT_LENGTH, LENT(w), NONE, LENT(masks), 5, LENT(record));
+    CALL(record_masked, SLIPGREASE_REPLY_MASKS_LENGTH, LENT(w), LENT(in), NONE, 5, LENT(record));
+    CALL(record_masked, SLIPGREASE_REPLY_OFFSET_RANGE, LENT(w), LENT(in), LENT(masks), 16, LENT(record));
+    CALL(record_masked, SLIPGREASE_REPLY_RECORD_LENGTH, LENT(w), LENT(in), LENT(masks), 5, NONE);
+}
+
+static void sheets(void)
+{
+    CALL(write_sheet, SLIPGREASE_REPLY_DONE, LENT(masks), LENT(sheet));
+    block("write_sheet", sheet, "4d534b0001000f3639535c656a959aa3");
+    block("write_sheet", sheet + 5, "000f3639535c656a959aa3acc6c9f0ff");
+    CALL(write_sheet, SLIPGREASE_REPLY_MASKS_LENGTH, NONE, LENT(sheet));
+    CALL(write_sheet, SLIPGREASE_REPLY_SHEET_LENGTH, LENT(masks), NONE);
+
+    CALL(read_sheet, SLIPGREASE_REPLY_DONE, LENT(sheet), LENT(table));
+    block("read_sheet", table, "000f3639535c656a959aa3acc6c9f0ff");
+    CALL(read_sheet, SLIPGREASE_REPLY_SHEET_LENGTH, NONE, LENT(table));
+    CALL(read_sheet, SLIPGREASE_REPLY_MASKS_LENGTH, LENT(sheet), NONE);
+    sheet[4] = 2;
+    CALL(read_sheet, SLIPGREASE_REPLY_VERSION_UNKNOWN, LENT(sheet), LENT(table));
+    sheet[0] = 0;
+    CALL(read_sheet, SLIPGREASE_REPLY_MARK_WRONG, LENT(sheet), LENT(table));
+}
+
+static void beside(void)
+{
+    PACKED(fitness, SLIPGREASE_REPLY_DONE, 1, LENT(masks));
+    PACKED(fitness, SLIPGREASE_REPLY_MASKS_LENGTH, 0, NONE);
+    CALL(multiply, 0xc1, 0x57, 0x83);
+    CALL(inverse, 0xca, 0x53);
+    PACKED(logarithm, SLIPGREASE_REPLY_DONE, 254, 0xf6);
+    PACKED(logarithm, SLIPGREASE_REPLY_NO_LOGARITHM, 0, 0x00);
+    PACKED(power, SLIPGREASE_REPLY_DONE, 0xf6, 254);
+    PACKED(power, SLIPGREASE_REPLY_POWER_RANGE, 0, 255);
+    CALL(masked_inverse, 0xca ^ 0x1f, 0x53 ^ 0x1f, 0x1f);
+    CALL(sort_reply, SLIPGREASE_GO_ON, SLIPGREASE_REPLY_DONE);
+    CALL(sort_reply, SLIPGREASE_CALLER_FAULT, SLIPGREASE_REPLY_RECORD_LENGTH);
+    CALL(sort_reply, SLIPGREASE_DATA_FAULT, SLIPGREASE_REPLY_NO_LOGARITHM);
+}
+
+int main(int count, char **words)
+{
+    if (count > 1)
+        spoiled = words[1];
+    rack();
+    module();
+    sheets();
+    beside();
+    return faults;
+}
