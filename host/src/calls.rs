@@ -1,7 +1,10 @@
-//! The calls of build/libslipgrease.a: their C declarations, and each as a function over slices.
+//! The C names of libslipgrease.a over slices, with the reply numbers as the library gives them: for who wants just these. This
+//! file alone has `unsafe`.
 //!
-//! A slice goes as a pointer and a length, and slices that are written share no byte with others. The calls ask nothing else of
-//! their caller, so each function here is safe.
+//! A slice goes as a pointer and a length. A call reads and writes within the slices that it is lent and asks nothing else of its
+//! caller, so that each function here is safe. Each is described under its name in the crate itself.
+
+#![allow(missing_docs)]
 
 extern "C" {
     fn slipgrease_expand_key(key: *const u8, key_len: usize, schedule: *mut u8, schedule_len: usize) -> u8;

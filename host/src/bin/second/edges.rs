@@ -1,7 +1,7 @@
 //! The edges that the scope names, one by one.
 
-use crate::calls;
 use crate::report::Tally;
+use slipgrease::calls;
 
 /// A name, what the library gave and what it should give.
 struct Edge {

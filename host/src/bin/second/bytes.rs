@@ -1,11 +1,11 @@
 //! The calls that take bytes alone, compared on all of them.
 
 use crate::answer::{packed, value, Answer};
-use crate::calls;
 use crate::field;
 use crate::random::Random;
 use crate::report::Tally;
 use crate::sheet;
+use slipgrease::calls;
 
 /// A call that takes one byte is given the first of two, and is tried on 256 inputs.
 pub struct ByteCall {

@@ -15,7 +15,7 @@ pub fn fitness(masks: &[u8]) -> u8 {
 pub fn sorted(number: u8) -> u8 {
     match number {
         0 => 0,
-        9 | 10 | 11 | 12 | 13 => 2,
+        9..=13 => 2,
         _ => 1,
     }
 }

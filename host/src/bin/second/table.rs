@@ -2,11 +2,11 @@
 //! it should do.
 
 use crate::answer::{number, packed, Answer};
-use crate::calls;
 use crate::cipher::{add, decrypt, encrypt, expand_key, record, Boxes, State};
 use crate::lent::{Buffer, Lent};
 use crate::masked::{Masking, PUBLISHED};
 use crate::sheet;
+use slipgrease::calls;
 
 /// The reference is asked only where no refusal is met. It gives the value, and writes what is to be written.
 pub struct Call {

@@ -4,11 +4,10 @@
 //! It prints for each call how many cases were compared and how many differ, and fails where any does. SPOILED names a call, or
 //! `edges`: what is expected of it is then changed, so that each of its cases must differ.
 
-#![no_main]
+#![forbid(unsafe_code)]
 
 mod answer;
 mod bytes;
-mod calls;
 mod cases;
 mod cipher;
 mod compare;
@@ -28,23 +27,24 @@ use crate::compare::compare;
 use crate::random::Random;
 use crate::report::Report;
 use crate::table::CALLS;
+use std::process::exit;
 
-/// C's main and not Rust's, which first asks for the bounds of the stack: there the kit's emulator for x86-64 breaks down.
-#[no_mangle]
-pub extern "C" fn main() -> i32 {
+fn main() {
     let words: Vec<String> = std::env::args().skip(1).collect();
     let number = |i: usize| words.get(i).and_then(|word| word.parse().ok());
-    match (number(0), number(1), words.len()) {
+    let same = match (number(0), number(1), words.len()) {
         (Some(seed), Some(cases), 2) => all(seed, cases as usize, ""),
         (Some(seed), Some(cases), 3) => all(seed, cases as usize, &words[2]),
         _ => {
             eprintln!("usage: second SEED CASES [SPOILED]");
-            2
+            exit(2)
         }
-    }
+    };
+    exit(i32::from(!same))
 }
 
-fn all(seed: u64, cases: usize, spoiled: &str) -> i32 {
+/// Whether nothing differs.
+fn all(seed: u64, cases: usize, spoiled: &str) -> bool {
     let boxes = Boxes::new();
     let mut random = Random::new(seed);
     let mut report = Report::start();
@@ -57,5 +57,5 @@ fn all(seed: u64, cases: usize, spoiled: &str) -> i32 {
         report.row(call.name, call.method, tally);
     }
     report.row("edges", "the scope's numbers", edges::compare(spoiled == "edges"));
-    i32::from(!report.end())
+    report.end()
 }

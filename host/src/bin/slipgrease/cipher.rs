@@ -1,0 +1,104 @@
+//! The commands that make one block, and the key schedule.
+
+use crate::fault::Fault;
+use crate::hex::digits;
+use crate::words::{Given, Number, Words};
+use slipgrease::Refusal;
+use std::io::Write;
+
+/// A schedule: that of a key, or the one that --schedule gives, which any 240 bytes are.
+#[derive(Clone)]
+pub struct Keyed {
+    given: Given,
+    pub bytes: Vec<u8>,
+}
+
+impl Keyed {
+    pub fn read(words: &mut Words) -> Result<Keyed, Fault> {
+        if let Some(given) = words.bytes_of("schedule")? {
+            return Ok(Keyed { bytes: given.bytes.clone(), given });
+        }
+        let given = words.bytes("key")?;
+        Keyed::expand(given)
+    }
+
+    pub fn expand(given: Given) -> Result<Keyed, Fault> {
+        let mut bytes = vec![0; 240];
+        match slipgrease::expand_key(&given.bytes, &mut bytes) {
+            Ok(()) => Ok(Keyed { given, bytes }),
+            Err(refusal) => Err(given.refused(refusal)),
+        }
+    }
+}
+
+/// What a masked run is run with.
+#[derive(Clone)]
+pub struct Masking {
+    pub masks: Option<Given>,
+    pub offset: Number,
+    pub form: Option<Number>,
+}
+
+/// Says of a refusal which of the words it is about.
+pub fn explained(refusal: Refusal, keyed: &Keyed, block: &Given, masking: Option<&Masking>) -> Fault {
+    match (refusal, masking) {
+        (Refusal::ScheduleLength, _) => keyed.given.refused(refusal),
+        (Refusal::InputLength, _) => block.refused(refusal),
+        (Refusal::MasksLength, Some(Masking { masks: Some(masks), .. })) => masks.refused(refusal),
+        (Refusal::OffsetRange, Some(masking)) => masking.offset.refused(refusal),
+        (Refusal::FormUnknown, Some(Masking { form: Some(form), .. })) => form.refused(refusal),
+        _ => Fault::refused(refusal, "the library"),
+    }
+}
+
+/// Fifteen round keys, one to a line.
+pub fn expand(words: &mut Words, out: &mut dyn Write) -> Result<(), Fault> {
+    let given = words.bytes("key")?;
+    words.end()?;
+    for round_key in Keyed::expand(given)?.bytes.chunks(16) {
+        writeln!(out, "{}", digits(round_key))?;
+    }
+    Ok(())
+}
+
+pub fn encrypt(words: &mut Words, out: &mut dyn Write) -> Result<(), Fault> {
+    one_block(words, out, slipgrease::encrypt)
+}
+
+pub fn decrypt(words: &mut Words, out: &mut dyn Write) -> Result<(), Fault> {
+    one_block(words, out, slipgrease::decrypt)
+}
+
+type Cipher = fn(&[u8], &[u8], &mut [u8]) -> Result<(), Refusal>;
+
+fn one_block(words: &mut Words, out: &mut dyn Write, cipher: Cipher) -> Result<(), Fault> {
+    let keyed = Keyed::read(words)?;
+    let block = words.bytes("block")?;
+    words.end()?;
+    let mut output = [0; 16];
+    cipher(&keyed.bytes, &block.bytes, &mut output).map_err(|refusal| explained(refusal, &keyed, &block, None))?;
+    writeln!(out, "{}", digits(&output))?;
+    Ok(())
+}
+
+/// The module's encryption, at the offset and in the form that the caller names.
+pub fn mask(words: &mut Words, out: &mut dyn Write) -> Result<(), Fault> {
+    let offset = words.number_of("offset")?;
+    let form = words.number_of("form")?;
+    let masks = words.bytes_of("masks")?;
+    let keyed = Keyed::read(words)?;
+    let block = words.bytes("block")?;
+    words.end()?;
+    let offset =
+        offset.ok_or_else(|| Fault::caller("--offset is missing: the run's offset, 0 to 15, is the caller's to choose"))?;
+    let masking = Masking { masks, offset, form };
+    let (number, form) = (masking.offset.value, masking.form.as_ref().map_or(0, |form| form.value));
+    let mut output = [0; 16];
+    let made = match &masking.masks {
+        None => slipgrease::encrypt_published(&keyed.bytes, &block.bytes, &mut output, number, form),
+        Some(masks) => slipgrease::encrypt_masked(&keyed.bytes, &block.bytes, &mut output, &masks.bytes, number, form),
+    };
+    made.map_err(|refusal| explained(refusal, &keyed, &block, Some(&masking)))?;
+    writeln!(out, "{}", digits(&output))?;
+    Ok(())
+}

@@ -1,0 +1,140 @@
+//! What `--help` says. Each example is run by a test, and what stands under it is what it prints.
+
+/// A command, how it is called, what it does, and an example. Where an example ends with three dots, more is printed.
+struct Help {
+    name: &'static str,
+    usage: &'static str,
+    summary: &'static str,
+    text: &'static str,
+    example: &'static str,
+}
+
+const HELPS: &[Help] = &[
+    Help {
+        name: "expand",
+        usage: "expand KEY",
+        summary: "the fifteen round keys of a key",
+        text: "Prints the 240 bytes of the key schedule, a round key to a line.",
+        example: "\
+$ slipgrease expand 603deb1015ca71be2b73aef0857d77811f352c073b6108d72d9810a30914dff4
+603deb1015ca71be2b73aef0857d7781
+1f352c073b6108d72d9810a30914dff4
+9ba354118e6925afa51a8b5f2067fcde
+...",
+    },
+    Help {
+        name: "encrypt",
+        usage: "encrypt KEY BLOCK | encrypt --schedule SCHEDULE BLOCK",
+        summary: "a block encrypted by the rack's engine",
+        text: "Prints the ciphertext of one block. A schedule can stand for the key: any 240 bytes, or - for standard input.",
+        example: "\
+$ slipgrease encrypt 000102030405060708090a0b0c0d0e0f101112131415161718191a1b1c1d1e1f 00112233445566778899aabbccddeeff
+8ea2b7ca516745bfeafc49904b496089",
+    },
+    Help {
+        name: "decrypt",
+        usage: "decrypt KEY BLOCK | decrypt --schedule SCHEDULE BLOCK",
+        summary: "a block decrypted by the rack's engine",
+        text: "Prints the plaintext of one block. A schedule can stand for the key: any 240 bytes, or - for standard input.",
+        example: "\
+$ slipgrease decrypt 000102030405060708090a0b0c0d0e0f101112131415161718191a1b1c1d1e1f 8ea2b7ca516745bfeafc49904b496089
+00112233445566778899aabbccddeeff",
+    },
+    Help {
+        name: "mask",
+        usage: "mask --offset O [--form F] [--masks MASKS] KEY BLOCK",
+        summary: "a block encrypted by the module's engine",
+        text: "\
+Prints the block that a masked run ends with, at an offset from 0 to 15 that the caller chooses. Form 0, which is meant where
+none is named, gives the standard ciphertext; form 1 the ciphertext still covered by Mask(O+14), as early modules made it. The
+masks are the published ones unless sixteen others are given. --schedule SCHEDULE can stand for the key.",
+        example: "\
+$ slipgrease mask --offset 3 000102030405060708090a0b0c0d0e0f101112131415161718191a1b1c1d1e1f 00112233445566778899aabbccddeeff
+8ea2b7ca516745bfeafc49904b496089",
+    },
+    Help {
+        name: "record",
+        usage: "record [--offset O] [--masks MASKS] [--svg FILE] KEY BLOCK",
+        summary: "the 71 states of a run, or of two side by side",
+        text: "\
+Without an offset the run is plain. With one it is masked, and each state stands with the plain one, its mask and the mask's
+name. The masks are the published ones unless sixteen others are given. --schedule SCHEDULE can stand for the key.
+
+A second run is put beside the first where --offset2 O, --masks2 MASKS, --key2 KEY or --block2 BLOCK is given; what it is not given
+it has from the first. The bytes in which the two differ are marked: their xor is printed, and dots where they are equal.
+
+--svg FILE draws the same as a picture.",
+        example: "\
+$ slipgrease record 000102030405060708090a0b0c0d0e0f101112131415161718191a1b1c1d1e1f 00112233445566778899aabbccddeeff
+ n  after            state
+ 0  block            00112233445566778899aabbccddeeff
+ 1  key 0            00102030405060708090a0b0c0d0e0f0
+ 2  boxes 0          63cab7040953d051cd60e0e7ba70e18c
+...",
+    },
+    Help {
+        name: "pipe",
+        usage: "pipe KEY BLOCK",
+        summary: "a pipe's key, made by the rack and by the module at every offset",
+        text: "\
+Prints the rack's ciphertext of a block and, for each of the sixteen offsets, the block as the module covers it, the module's
+ciphertext and whether it is equal, and in how many recorded states and bytes the runs differed from the rack's on the way.
+--schedule SCHEDULE can stand for the key.",
+        example: "\
+$ slipgrease pipe 000102030405060708090a0b0c0d0e0f101112131415161718191a1b1c1d1e1f 00112233445566778899aabbccddeeff
+The pipe's key, made of the block 00112233445566778899aabbccddeeff
+  by the rack                           8ea2b7ca516745bfeafc49904b496089
+...",
+    },
+    Help {
+        name: "sheet",
+        usage: "sheet read SHEET | sheet write MASKS",
+        summary: "a mask sheet read or written",
+        text: "A sheet is 21 bytes: 4d 53 4b, version 0001, and sixteen masks. Both ways it goes as hex digits.",
+        example: "\
+$ slipgrease sheet read 4d534b0001000f3639535c656a959aa3acc6c9f0ff
+000f3639535c656a959aa3acc6c9f0ff",
+    },
+    Help {
+        name: "fitness",
+        usage: "fitness MASKS",
+        summary: "whether a mask table is fit",
+        text: "Prints 1 and the word fit where the sixteen masks are all different, and otherwise 0 and the word unfit.",
+        example: "\
+$ slipgrease fitness 000f3639535c656a959aa3acc6c9f0ff
+1 fit",
+    },
+    Help {
+        name: "vectors",
+        usage: "vectors FILE",
+        summary: "a file of test vectors, run and counted",
+        text: "\
+Each line of the file has a key, a block and its ciphertext; what follows a # is left out. Each vector is encrypted, decrypted, and
+encrypted with the published masks at all sixteen offsets. What differs is printed, and is a data fault.",
+        example: "\
+$ slipgrease vectors vectors.txt
+vectors 1, compared 18, differ 0",
+    },
+];
+
+const STATUS: &str = "\
+Bytes are hex digits, two for each. An argument that is missing is read from standard input, word by word. The status is 0 where a
+command is done, 1 for a caller fault and 2 for a data fault; a refusal is told with the library's reply number.
+";
+
+/// All commands, a line for each.
+pub fn all() -> String {
+    let lines: Vec<String> = HELPS.iter().map(|help| format!("  {:<10}{}\n", help.name, help.summary)).collect();
+    format!(
+        "slipgrease COMMAND ..: AES-256 for one block, plain and masked, by a proved library\n\n{}\n\
+         slipgrease COMMAND --help says more, with an example.\n\n{STATUS}",
+        lines.concat()
+    )
+}
+
+/// One command.
+pub fn of(name: &str) -> String {
+    let help = HELPS.iter().find(|help| help.name == name).expect("every command has its help");
+    let example: Vec<String> = help.example.lines().map(|line| format!("    {line}\n")).collect();
+    format!("slipgrease {}\n\n{}\n\n{STATUS}\n{}", help.usage, help.text, example.concat())
+}

@@ -1,0 +1,96 @@
+//! The record of a run: plain, masked, or two runs side by side, as text or as a picture.
+
+use crate::cipher::{explained, Keyed, Masking};
+use crate::fault::Fault;
+use crate::hex::digits;
+use crate::svg;
+use crate::table;
+use crate::words::{Given, Number, Words};
+use slipgrease::{Masks, Offset};
+use std::fs;
+use std::io::Write;
+
+pub fn record(words: &mut Words, out: &mut dyn Write) -> Result<(), Fault> {
+    let picture = words.option("svg")?;
+    let (offset, masks) = (words.number_of("offset")?, words.bytes_of("masks")?);
+    let (offset2, masks2) = (words.number_of("offset2")?, words.bytes_of("masks2")?);
+    let (key2, block2) = (words.bytes_of("key2")?, words.bytes_of("block2")?);
+    let keyed = Keyed::read(words)?;
+    let block = words.bytes("block")?;
+    words.end()?;
+
+    // What the second run is not given it has from the first.
+    let two = offset2.is_some() || masks2.is_some() || key2.is_some() || block2.is_some();
+    let second = Asked {
+        keyed: key2.map_or(Ok(keyed.clone()), Keyed::expand)?,
+        block: block2.unwrap_or_else(|| block.clone()),
+        masking: masking(offset2.or_else(|| offset.clone()), masks2.or_else(|| masks.clone()))?,
+    };
+    let first = Run::new(Asked { keyed, block, masking: masking(offset, masks)? })?;
+    let second = if two { Some(Run::new(second)?) } else { None };
+
+    match picture {
+        None => out.write_all(table::table(&first, second.as_ref()).as_bytes())?,
+        Some(file) => fs::write(&file, svg::picture(&first, second.as_ref()))
+            .map_err(|error| Fault::caller(format!("--svg {file}: {error}")))?,
+    }
+    Ok(())
+}
+
+fn masking(offset: Option<Number>, masks: Option<Given>) -> Result<Option<Masking>, Fault> {
+    match (offset, masks) {
+        (Some(offset), masks) => Ok(Some(Masking { masks, offset, form: None })),
+        (None, None) => Ok(None),
+        (None, Some(_)) => Err(Fault::caller("masks are given and --offset is missing: a run without an offset is plain")),
+    }
+}
+
+/// What a run is asked for with.
+struct Asked {
+    keyed: Keyed,
+    block: Given,
+    masking: Option<Masking>,
+}
+
+/// A run: what it is called, its offset if it is masked, its states, and those of the plain run.
+pub struct Run {
+    pub title: String,
+    pub block: Vec<u8>,
+    pub offset: Option<Offset>,
+    pub states: Vec<u8>,
+    pub plain: Vec<u8>,
+}
+
+impl Run {
+    fn new(asked: Asked) -> Result<Run, Fault> {
+        let Asked { keyed, block, masking } = asked;
+        let refused = |refusal| explained(refusal, &keyed, &block, masking.as_ref());
+        let mut plain = vec![0; 1136];
+        let mut states = vec![0; 1136];
+        let title = match &masking {
+            None => {
+                slipgrease::record_plain(&keyed.bytes, &block.bytes, &mut states).map_err(refused)?;
+                "plain".to_string()
+            }
+            Some(Masking { masks, offset, .. }) => {
+                let bytes = masks.as_ref().map_or(&Masks::PUBLISHED.as_bytes()[..], |masks| &masks.bytes);
+                slipgrease::record_masked(&keyed.bytes, &block.bytes, bytes, offset.value, &mut states).map_err(refused)?;
+                let named = masks.as_ref().map_or("the published masks".to_string(), |_| format!("masks {}", digits(bytes)));
+                format!("offset {}, {named}", offset.value)
+            }
+        };
+        slipgrease::record_plain(&keyed.bytes, &block.bytes, &mut plain).map_err(refused)?;
+        let offset = masking.map(|masking| Offset::new(masking.offset.value).expect("the library has taken it"));
+        Ok(Run { title, block: block.bytes, offset, states, plain })
+    }
+
+    /// Its title and its block.
+    pub fn named(&self) -> String {
+        format!("{}, block {}", self.title, digits(&self.block))
+    }
+
+    /// Sixteen bytes for each point: the mask over the state, which is what the plain state and the recorded one differ in.
+    pub fn masks(&self) -> Vec<u8> {
+        self.plain.iter().zip(&self.states).map(|(plain, covered)| plain ^ covered).collect()
+    }
+}

@@ -1,0 +1,51 @@
+//! A record as text: a row for each of the 71 points.
+
+use crate::hex::digits;
+use crate::record::Run;
+use slipgrease::Point;
+
+/// One run, or two side by side.
+pub fn table(first: &Run, second: Option<&Run>) -> String {
+    match (second, first.offset) {
+        (Some(second), _) => side_by_side(first, second),
+        (None, Some(_)) => covered(first),
+        (None, None) => plain(first),
+    }
+}
+
+fn state(states: &[u8], point: Point) -> &[u8] {
+    &states[16 * point.number()..][..16]
+}
+
+fn rows(heading: String, row: impl Fn(Point) -> String) -> String {
+    let rows: Vec<String> = Point::all().map(|point| format!("{:>2}  {point:<15}  {}\n", point.number(), row(point))).collect();
+    format!("{:>2}  {:<15}  {heading}\n{}", "n", "after", rows.concat())
+}
+
+fn plain(run: &Run) -> String {
+    rows("state".to_string(), |point| digits(state(&run.states, point)))
+}
+
+/// The plain state, its mask, the covered state, and the mask's name.
+fn covered(run: &Run) -> String {
+    let masks = run.masks();
+    let heading = format!("{:<32}  {:<32}  {:<32}  mask's name", "plain state", "mask", "covered state");
+    let name = |point: Point| run.offset.map_or(String::new(), |offset| point.mask(offset));
+    let table = rows(heading, |point| {
+        let [plain, mask, covered] = [&run.plain, &masks, &run.states].map(|states| digits(state(states, point)));
+        format!("{plain}  {mask}  {covered}  {}", name(point))
+    });
+    format!("{}\n{table}", run.named())
+}
+
+/// Both states, and their xor with dots for the bytes that are equal.
+fn side_by_side(first: &Run, second: &Run) -> String {
+    let heading = format!("{:<32}  {:<32}  {:<32}  bytes", "first", "second", "what differs (xor)");
+    let table = rows(heading, |point| {
+        let (a, b) = (state(&first.states, point), state(&second.states, point));
+        let differ = a.iter().zip(b).filter(|(x, y)| x != y).count();
+        let marked: String = a.iter().zip(b).map(|(x, y)| if x == y { "..".to_string() } else { digits(&[x ^ y]) }).collect();
+        format!("{}  {}  {marked}  {differ:>5}", digits(a), digits(b))
+    });
+    format!("first:  {}\nsecond: {}\n{table}", first.named(), second.named())
+}

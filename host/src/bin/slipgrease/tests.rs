@@ -1,0 +1,230 @@
+//! Commands as they are typed. What is expected is from FIPS 197, the scope's own examples, or worked out here.
+
+use super::{help, run, COMMANDS};
+use std::fs;
+
+const KEY: &str = "000102030405060708090a0b0c0d0e0f101112131415161718191a1b1c1d1e1f";
+const BLOCK: &str = "00112233445566778899aabbccddeeff";
+const CIPHERTEXT: &str = "8ea2b7ca516745bfeafc49904b496089";
+const PUBLISHED: &str = "000f3639535c656a959aa3acc6c9f0ff";
+
+/// What a command prints, and its message and status where it fails.
+fn typed(line: &str, input: &str) -> (String, Option<(String, i32)>) {
+    let words: Vec<String> = line.split_whitespace().map(str::to_string).collect();
+    let mut out = Vec::new();
+    let failed = run(&words, &mut input.as_bytes(), &mut out).err();
+    (String::from_utf8(out).unwrap(), failed.map(|fault| (fault.message, fault.status)))
+}
+
+fn printed(line: &str) -> String {
+    let (out, failed) = typed(line, "");
+    assert_eq!(failed, None, "{line}");
+    out
+}
+
+fn refused(line: &str) -> (String, i32) {
+    let (out, failed) = typed(line, "");
+    assert_eq!(out, "", "{line}");
+    failed.expect(line)
+}
+
+#[test]
+fn every_command_has_its_help() {
+    for (name, _) in COMMANDS {
+        assert!(printed("--help").contains(&format!("  {name:<10}")));
+        assert!(printed(&format!("{name} --help")).contains(&format!("$ slipgrease {name} ")));
+    }
+}
+
+/// An example whose last line is three dots is printed so far, and any other in full. The file of vectors has C.3 alone.
+#[test]
+fn the_examples_of_the_help_print_what_they_show() {
+    let file = std::env::temp_dir().join(format!("slipgrease-example-{}", std::process::id()));
+    fs::write(&file, format!("{KEY} {BLOCK} {CIPHERTEXT}\n")).unwrap();
+    for (name, _) in COMMANDS {
+        let said = help::of(name);
+        let example: Vec<&str> = said.lines().filter_map(|line| line.strip_prefix("    ")).collect();
+        let command = example[0].strip_prefix("$ slipgrease ").unwrap().replace("vectors.txt", &file.to_string_lossy());
+        let shown = example[1..].join("\n") + "\n";
+        let printed = printed(&command);
+        match shown.strip_suffix("...\n") {
+            Some(beginning) => assert!(printed.starts_with(beginning), "{printed}"),
+            None => assert_eq!(printed, shown),
+        }
+    }
+    fs::remove_file(file).unwrap();
+}
+
+#[test]
+fn a_schedule_goes_from_one_command_to_the_next() {
+    let schedule = printed(&format!("expand {KEY}"));
+    let (out, failed) = typed(&format!("encrypt --schedule - {BLOCK}"), &schedule);
+    assert_eq!((out.trim(), failed), (CIPHERTEXT, None));
+}
+
+#[test]
+fn missing_arguments_are_read_from_standard_input() {
+    let (out, failed) = typed("encrypt", &format!("{KEY}\n\n  {BLOCK}\n"));
+    assert_eq!((out.trim(), failed), (CIPHERTEXT, None));
+    let (out, failed) = typed(&format!("encrypt {KEY}"), BLOCK);
+    assert_eq!((out.trim(), failed), (CIPHERTEXT, None));
+    let message = "block is missing: it is expected as an argument or on standard input; slipgrease encrypt --help says more";
+    assert_eq!(refused(&format!("encrypt {KEY}")), (message.to_string(), 1));
+}
+
+#[test]
+fn the_module_makes_the_ciphertext_at_every_offset() {
+    for offset in 0..16 {
+        assert_eq!(printed(&format!("mask --offset {offset} {KEY} {BLOCK}")).trim(), CIPHERTEXT);
+        assert_eq!(printed(&format!("mask {KEY} {BLOCK} --masks {BLOCK} --offset {offset} --form 0")).trim(), CIPHERTEXT);
+    }
+}
+
+/// Mask(14) begins f0 ff 00 0f, so the block in form 1 at offset 0 begins 7e 5d b7 c5.
+#[test]
+fn form_1_is_still_covered() {
+    assert!(printed(&format!("mask --offset 0 --form 1 {KEY} {BLOCK}")).starts_with("7e5db7c5"));
+}
+
+/// What was wrong, where, what was expected, and the library's number, sorted by the library.
+#[test]
+fn refusals_say_what_was_wrong() {
+    let short = &KEY[2..];
+    let sheet = "4d534b0001";
+    let cases = [
+        (format!("expand {short}"), "key, argument 1: 31 bytes: the key is not 32 bytes long (reply 1, KEY_LENGTH)", 1),
+        (
+            format!("encrypt --schedule {KEY} {BLOCK}"),
+            "schedule, option --schedule: 32 bytes: the schedule is not 240 bytes long (reply 2, SCHEDULE_LENGTH)",
+            1,
+        ),
+        (
+            format!("decrypt {KEY} {KEY}"),
+            "block, argument 2: 32 bytes: the input block is not 16 bytes long (reply 3, INPUT_LENGTH)",
+            1,
+        ),
+        (
+            format!("record --offset 0 --masks 00 {KEY} {BLOCK}"),
+            "masks, option --masks: 1 bytes: the mask table is not 16 bytes long (reply 5, MASKS_LENGTH)",
+            1,
+        ),
+        (format!("mask --offset 16 {KEY} {BLOCK}"), "--offset 16: the offset is above 15 (reply 6, OFFSET_RANGE)", 1),
+        (format!("mask --offset 272 {KEY} {BLOCK}"), "--offset 272: the offset is above 15 (reply 6, OFFSET_RANGE)", 1),
+        (format!("mask --offset 1 --form 2 {KEY} {BLOCK}"), "--form 2: the form is neither 0 nor 1 (reply 7, FORM_UNKNOWN)", 1),
+        (format!("sheet read {sheet}"), "sheet, argument 2: 5 bytes: the sheet is not 21 bytes long (reply 11, SHEET_LENGTH)", 2),
+        (
+            format!("sheet read 00{}{PUBLISHED}", &sheet[2..]),
+            "sheet, argument 2: 21 bytes: the sheet does not begin with its mark, 4d 53 4b (reply 12, MARK_WRONG)",
+            2,
+        ),
+        (
+            format!("sheet read 4d534b0002{PUBLISHED}"),
+            "sheet, argument 2: 21 bytes: the sheet's version is not 1 (reply 13, VERSION_UNKNOWN)",
+            2,
+        ),
+    ];
+    for (line, message, status) in cases {
+        assert_eq!(refused(&line), (message.to_string(), status));
+    }
+}
+
+#[test]
+fn what_never_reaches_the_library_is_a_caller_fault() {
+    let cases = [
+        ("expand 0g", "key, argument 1: 'g' at digit 2 is not a hex digit"),
+        ("expand 012", "key, argument 1: 3 hex digits are half a byte too many; a byte is two"),
+        ("sheet burn", "sheet burn: read or write is expected"),
+        ("melt", "no command melt; slipgrease --help lists them"),
+        ("expand --fast 00", "no option --fast here; slipgrease expand --help says more"),
+        ("expand --schedule", "no option --schedule here; slipgrease expand --help says more"),
+        (
+            "encrypt --schedule",
+            "--schedule is the last word, and a value is expected behind it; slipgrease encrypt --help says more",
+        ),
+        ("mask --offset x", "--offset x: a decimal number is expected; slipgrease mask --help says more"),
+        ("mask --offset 1 --offset 2", "--offset is given twice; slipgrease mask --help says more"),
+        ("fitness 00 00", "00 is one word too many; slipgrease fitness --help says more"),
+    ];
+    for (line, message) in cases {
+        assert_eq!(refused(line), (message.to_string(), 1));
+    }
+    let without = refused(&format!("mask {KEY} {BLOCK}"));
+    assert_eq!(without.1, 1);
+    assert!(without.0.starts_with("--offset is missing"));
+}
+
+#[test]
+fn a_masked_record_has_each_state_with_its_mask() {
+    let said = printed(&format!("record --offset 0 {KEY} {BLOCK}"));
+    let rows: Vec<Vec<&str>> = said.lines().skip(2).map(|line| line.split_whitespace().collect()).collect();
+    assert_eq!(rows.len(), 71);
+    assert_eq!(rows[0], ["0", "block", BLOCK, PUBLISHED, "001e140a1709031d1d0309170a141e00", "Mask(0)"]);
+    // The scope: ShiftRows(Mask(14)) begins f0 39 95 c9.
+    assert_eq!(rows[69][..3], ["69", "key", "14"]);
+    assert!(rows[69][4].starts_with("f03995c9"));
+    assert_eq!(rows[69][6], "ShiftRows(Mask(14))");
+    assert_eq!(rows[70], ["70", "ciphertext", CIPHERTEXT, "00000000000000000000000000000000", CIPHERTEXT, "none"]);
+}
+
+#[test]
+fn two_runs_stand_side_by_side() {
+    let said = printed(&format!("record --offset 0 --offset2 1 {KEY} {BLOCK}"));
+    let rows: Vec<&str> = said.lines().collect();
+    assert_eq!(rows.len(), 2 + 1 + 71);
+    // The first two masks are 00 and 0f, the last 00's neighbour ff.
+    assert!(rows[3].contains("  0f39"), "{}", rows[3]);
+    assert!(rows[73].ends_with(&format!("{CIPHERTEXT}  {CIPHERTEXT}  {}      0", ".".repeat(32))), "{}", rows[73]);
+    let plain = printed(&format!("record {KEY} {BLOCK} --block2 {BLOCK}"));
+    assert_eq!(plain.matches(&".".repeat(32)).count(), 71);
+}
+
+#[test]
+fn a_picture_has_a_cell_for_every_byte() {
+    let folder = std::env::temp_dir().join(format!("slipgrease-{}", std::process::id()));
+    fs::create_dir_all(&folder).unwrap();
+    let file = folder.join("run.svg");
+    for (more, cells, pale) in [("", 1136, 0), (" --offset 3", 3 * 1136, 0), (" --offset 3 --offset2 3", 3 * 1136, 3 * 1136)] {
+        assert_eq!(printed(&format!("record --svg {} {KEY} {BLOCK}{more}", file.display())), "");
+        let svg = fs::read_to_string(&file).unwrap();
+        let legend = 16;
+        assert_eq!(svg.matches("<text class=\"byte").count(), cells + legend);
+        assert_eq!(svg.matches("byte pale").count(), pale);
+        assert!(svg.starts_with("<svg ") && svg.ends_with("</svg>\n"));
+    }
+    fs::remove_dir_all(folder).unwrap();
+}
+
+#[test]
+fn the_pipe_s_key_is_the_rack_s_sixteen_times() {
+    let said = printed(&format!("pipe {KEY} {BLOCK}"));
+    assert_eq!(said.matches(CIPHERTEXT).count(), 17);
+    assert!(said.contains("\n16 of 16 offsets give the rack's key. "));
+    // All points but the last are covered; the block at offset 15 is covered by ff, 00, 0f, ..
+    assert!(said.contains(" 70 of 71 recorded states\n"));
+    assert!(said.contains("\n  15  ff112d05"));
+    assert!(said.lines().count() <= 24 && said.lines().all(|line| line.len() <= 80));
+}
+
+#[test]
+fn vectors_are_counted_and_a_wrong_one_is_a_data_fault() {
+    let folder = std::env::temp_dir().join(format!("slipgrease-vectors-{}", std::process::id()));
+    fs::create_dir_all(&folder).unwrap();
+    let file = folder.join("vectors.txt");
+    let line = format!("vectors {}", file.display());
+    fs::write(&file, format!("# C.3\n\n{KEY} {BLOCK} {CIPHERTEXT} # and a word on it\n")).unwrap();
+    assert_eq!(printed(&line), "vectors 1, compared 18, differ 0\n");
+    fs::write(&file, format!("{KEY} {BLOCK} {BLOCK}\n")).unwrap();
+    let (out, failed) = typed(&line, "");
+    assert!(out.ends_with("vectors 1, compared 18, differ 18\n"));
+    assert_eq!(failed.unwrap().1, 2);
+    fs::write(&file, format!("{KEY} {BLOCK}\n")).unwrap();
+    assert_eq!(refused(&line).1, 1);
+    fs::write(&file, format!("{KEY} {BLOCK} 00\n")).unwrap();
+    assert!(refused(&line)
+        .0
+        .ends_with("line 1, ciphertext: 1 bytes: the input block is not 16 bytes long (reply 3, INPUT_LENGTH)"));
+    fs::write(&file, "# C.3\n").unwrap();
+    assert!(refused(&line).0.contains("no vector in it"));
+    fs::remove_dir_all(folder).unwrap();
+    assert_eq!(refused(&line).1, 1);
+}

@@ -1,0 +1,94 @@
+//! A file of vectors, each run by the rack's engine and by the module's at every offset.
+
+use crate::fault::Fault;
+use crate::hex;
+use crate::progress::Progress;
+use crate::words::Words;
+use slipgrease::{Block, Form, Offset, Refusal, Schedule};
+use std::fs;
+use std::io::Write;
+
+struct Vector {
+    line: usize,
+    schedule: Schedule,
+    block: Block,
+    ciphertext: Block,
+}
+
+/// A vector that differs is a data fault, found once all have been run.
+pub fn vectors(words: &mut Words, out: &mut dyn Write) -> Result<(), Fault> {
+    let (file, _) = words.word("the file of vectors")?;
+    words.end()?;
+    let text = fs::read_to_string(&file).map_err(|error| Fault::caller(format!("{file}: {error}")))?;
+    let vectors = read(&file, &text)?;
+    let mut progress = Progress::start("vectors", vectors.len());
+    let (mut compared, mut differ) = (0, 0);
+    for (done, vector) in vectors.iter().enumerate() {
+        for (what, given, expected) in made(vector) {
+            compared += 1;
+            if given != expected {
+                differ += 1;
+                let (given, expected) = (hex::digits(&given), hex::digits(&expected));
+                writeln!(out, "{file}, line {}, {what}: made {given}, expected {expected}", vector.line)?;
+            }
+        }
+        progress.at(done + 1);
+    }
+    drop(progress);
+    writeln!(out, "vectors {}, compared {compared}, differ {differ}", vectors.len())?;
+    if differ > 0 {
+        return Err(Fault::data(format!("{file}: {differ} of {compared} differ")));
+    }
+    Ok(())
+}
+
+/// What each call makes of a vector, and what it should make.
+fn made(vector: &Vector) -> Vec<(String, Block, Block)> {
+    let Vector { schedule, block, ciphertext, .. } = vector;
+    let mut made = vec![
+        ("encrypt".to_string(), schedule.encrypt(block), *ciphertext),
+        ("decrypt".to_string(), schedule.decrypt(ciphertext), *block),
+    ];
+    made.extend(Offset::all().map(|offset| {
+        let masked = schedule.encrypt_published(block, offset, Form::Standard);
+        (format!("mask --offset {}", offset.number()), masked, *ciphertext)
+    }));
+    made
+}
+
+/// Key, block and ciphertext to a line; what follows a # is left out.
+fn read(file: &str, text: &str) -> Result<Vec<Vector>, Fault> {
+    let mut vectors = Vec::new();
+    for (index, line) in text.lines().enumerate() {
+        let line = line.split('#').next().unwrap_or("");
+        let words: Vec<&str> = line.split_whitespace().collect();
+        match words[..] {
+            [] => {}
+            [key, block, ciphertext] => vectors.push(vector(file, index + 1, key, block, ciphertext)?),
+            _ => {
+                let place = format!("{file}, line {}", index + 1);
+                return Err(Fault::caller(format!("{place}: {} words, and key, block and ciphertext are expected", words.len())));
+            }
+        }
+    }
+    if vectors.is_empty() {
+        return Err(Fault::caller(format!("{file}: no vector in it, and one to a line is expected")));
+    }
+    Ok(vectors)
+}
+
+fn vector(file: &str, line: usize, key: &str, block: &str, ciphertext: &str) -> Result<Vector, Fault> {
+    let place = |what: &str| format!("{file}, line {line}, {what}");
+    let bytes = |what: &str, word: &str| hex::bytes(word).map_err(|wrong| Fault::caller(format!("{}: {wrong}", place(what))));
+    let sixteen = |what: &str, word: &str| {
+        let bytes = bytes(what, word)?;
+        let seen = format!("{}: {} bytes", place(what), bytes.len());
+        bytes.try_into().map_err(|_| Fault::refused(Refusal::InputLength, &seen))
+    };
+    let key = bytes("key", key)?;
+    let mut schedule = [0; 240];
+    slipgrease::expand_key(&key, &mut schedule)
+        .map_err(|refusal| Fault::refused(refusal, &format!("{}: {} bytes", place("key"), key.len())))?;
+    let (block, ciphertext) = (sixteen("block", block)?, sixteen("ciphertext", ciphertext)?);
+    Ok(Vector { line, schedule: Schedule::new(schedule), block, ciphertext })
+}

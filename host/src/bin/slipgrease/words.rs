@@ -1,0 +1,137 @@
+//! What a command is given: options, arguments, and where arguments are missing, the words of standard input.
+
+use crate::fault::Fault;
+use crate::hex;
+use slipgrease::Refusal;
+use std::io::BufRead;
+
+/// Bytes, what they are called and where they were read.
+#[derive(Clone)]
+pub struct Given {
+    pub what: &'static str,
+    pub place: String,
+    pub bytes: Vec<u8>,
+}
+
+impl Given {
+    /// Says the length that was given, in front of what the library says of it.
+    pub fn refused(&self, refusal: Refusal) -> Fault {
+        Fault::refused(refusal, &format!("{}, {}: {} bytes", self.what, self.place, self.bytes.len()))
+    }
+}
+
+/// A number, and the word that it was given as.
+#[derive(Clone)]
+pub struct Number {
+    what: &'static str,
+    word: String,
+    pub value: u8,
+}
+
+impl Number {
+    pub fn refused(&self, refusal: Refusal) -> Fault {
+        Fault::refused(refusal, &format!("--{} {}", self.what, self.word))
+    }
+}
+
+pub struct Words<'a> {
+    command: &'a str,
+    left: Vec<String>,
+    taken: usize,
+    input: &'a mut dyn BufRead,
+    waiting: Vec<String>,
+    read: usize,
+}
+
+impl<'a> Words<'a> {
+    pub fn new(command: &'a str, words: &[String], input: &'a mut dyn BufRead) -> Words<'a> {
+        Words { command, left: words.to_vec(), taken: 0, input, waiting: Vec::new(), read: 0 }
+    }
+
+    fn usage(&self, message: String) -> Fault {
+        Fault::caller(format!("{message}; slipgrease {} --help says more", self.command))
+    }
+
+    /// The word behind an option, if the option is there.
+    pub fn option(&mut self, name: &'static str) -> Result<Option<String>, Fault> {
+        let flag = format!("--{name}");
+        let place = match self.left.iter().position(|word| *word == flag) {
+            Some(place) => place,
+            None => return Ok(None),
+        };
+        if place + 1 == self.left.len() {
+            return Err(self.usage(format!("--{name} is the last word, and a value is expected behind it")));
+        }
+        let value = self.left.remove(place + 1);
+        self.left.remove(place);
+        if self.left.contains(&flag) {
+            return Err(self.usage(format!("--{name} is given twice")));
+        }
+        Ok(Some(value))
+    }
+
+    /// The bytes behind an option; behind a dash they are all of standard input.
+    pub fn bytes_of(&mut self, option: &'static str) -> Result<Option<Given>, Fault> {
+        match self.option(option)? {
+            None => Ok(None),
+            Some(word) if word == "-" => {
+                let mut text = String::new();
+                self.input.read_to_string(&mut text)?;
+                given(option, "standard input".to_string(), &text.split_whitespace().collect::<String>()).map(Some)
+            }
+            Some(word) => given(option, format!("option --{option}"), &word).map(Some),
+        }
+    }
+
+    /// The number behind an option. One that no byte holds goes on as 255, which is as much out of range.
+    pub fn number_of(&mut self, option: &'static str) -> Result<Option<Number>, Fault> {
+        match self.option(option)? {
+            None => Ok(None),
+            Some(word) => match word.parse::<u64>() {
+                Ok(number) => Ok(Some(Number { what: option, word, value: u8::try_from(number).unwrap_or(255) })),
+                Err(_) => Err(self.usage(format!("--{option} {word}: a decimal number is expected"))),
+            },
+        }
+    }
+
+    /// The next argument, or the next word of standard input where there is none left.
+    pub fn word(&mut self, what: &str) -> Result<(String, String), Fault> {
+        if let Some(option) = self.left.iter().find(|word| word.starts_with('-') && word.len() > 1) {
+            return Err(self.usage(format!("no option {option} here")));
+        }
+        if !self.left.is_empty() {
+            self.taken += 1;
+            return Ok((self.left.remove(0), format!("argument {}", self.taken)));
+        }
+        while self.waiting.is_empty() {
+            let mut line = String::new();
+            if self.input.read_line(&mut line)? == 0 {
+                return Err(self.usage(format!("{what} is missing: it is expected as an argument or on standard input")));
+            }
+            self.waiting = line.split_whitespace().map(str::to_string).collect();
+        }
+        self.read += 1;
+        Ok((self.waiting.remove(0), format!("word {} of standard input", self.read)))
+    }
+
+    /// The next bytes, of an argument or of standard input.
+    pub fn bytes(&mut self, what: &'static str) -> Result<Given, Fault> {
+        let (word, place) = self.word(what)?;
+        given(what, place, &word)
+    }
+
+    /// All that was given must have been used.
+    pub fn end(&mut self) -> Result<(), Fault> {
+        match self.left.first() {
+            Some(word) => Err(self.usage(format!("{word} is one word too many"))),
+            None => Ok(()),
+        }
+    }
+}
+
+fn given(what: &'static str, place: String, word: &str) -> Result<Given, Fault> {
+    match hex::bytes(word) {
+        Ok(bytes) => Ok(Given { what, place, bytes }),
+        Err(wrong) => Err(Fault::caller(format!("{what}, {place}: {wrong}"))),
+    }
+}

@@ -1,0 +1,49 @@
+//! AES-256 for one block, plain and masked, by a library in which every call is proved to meet its promise.
+//!
+//! The library is `libslipgrease.a`, written in Rattle; this crate is its face for Rust. Whatever a call is lent, it ends, and
+//! gives the one answer that its promise names: wrong lengths, offsets and forms are refused, each with its own [`Refusal`], in a
+//! fixed order, and a refused call has written nothing.
+//!
+//! There are two ways to call it. The functions of this page take slices of any length and hand them on as they are. The types
+//! [`Schedule`], [`Masks`], [`Offset`] and [`Form`] hold only what the library takes, so that their calls cannot be refused:
+//!
+//! ```
+//! use slipgrease::{Form, Masks, Offset, Schedule};
+//!
+//! // FIPS 197, C.3.
+//! let key = std::array::from_fn(|i| i as u8);
+//! let block = std::array::from_fn(|i| 0x11 * i as u8);
+//! let schedule = Schedule::expand(&key);
+//!
+//! let at_the_rack = schedule.encrypt(&block);
+//! assert_eq!(at_the_rack[..4], [0x8e, 0xa2, 0xb7, 0xca]);
+//! assert_eq!(schedule.decrypt(&at_the_rack), block);
+//!
+//! for offset in Offset::all() {
+//!     let in_the_module = schedule.encrypt_published(&block, offset, Form::Standard);
+//!     assert_eq!(in_the_module, at_the_rack);
+//! }
+//! ```
+//!
+//! What is proved is the code behind the C names. This crate adds no cipher of its own: a file of declarations, `calls.rs`, which
+//! alone has `unsafe`, and types around it. No claim is made about power or time. No offset is drawn here: every one comes from
+//! the caller.
+
+#![deny(missing_docs, unsafe_code)]
+
+#[allow(unsafe_code)]
+pub mod calls;
+mod masks;
+mod record;
+mod refusal;
+mod schedule;
+mod slices;
+
+pub use crate::masks::{Form, Masks, Offset};
+pub use crate::record::{Point, Record, Step};
+pub use crate::refusal::{sort_reply, Fault, Refusal};
+pub use crate::schedule::{Block, Schedule};
+pub use crate::slices::{
+    decrypt, encrypt, encrypt_masked, encrypt_published, expand_key, fitness, inverse, logarithm, masked_inverse, multiply,
+    power, read_sheet, record_masked, record_plain, write_sheet,
+};

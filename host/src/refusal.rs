@@ -1,0 +1,169 @@
+//! The refusals by number, name and meaning, and how a host sorts them.
+
+use crate::calls;
+use std::fmt;
+
+/// Why a call was refused. A refused call has written nothing.
+///
+/// ```
+/// use slipgrease::{Fault, Refusal};
+///
+/// let refusal = slipgrease::expand_key(&[0; 31], &mut [0; 240]).unwrap_err();
+/// assert_eq!(refusal, Refusal::KeyLength);
+/// assert_eq!((refusal.number(), refusal.name()), (1, "KEY_LENGTH"));
+/// assert_eq!(refusal.fault(), Some(Fault::Caller));
+/// assert_eq!(refusal.to_string(), "the key is not 32 bytes long (reply 1, KEY_LENGTH)");
+/// ```
+#[derive(Clone, Copy, Debug, PartialEq, Eq, Hash)]
+#[non_exhaustive]
+pub enum Refusal {
+    /// The key is not 32 bytes long.
+    KeyLength = 1,
+    /// The schedule is not 240 bytes long.
+    ScheduleLength = 2,
+    /// The input block is not 16 bytes long.
+    InputLength = 3,
+    /// The output block is not 16 bytes long.
+    OutputLength = 4,
+    /// The mask table is not 16 bytes long.
+    MasksLength = 5,
+    /// The offset is above 15.
+    OffsetRange = 6,
+    /// The form is neither 0 nor 1.
+    FormUnknown = 7,
+    /// The record is not 1,136 bytes long.
+    RecordLength = 8,
+    /// 00 has no logarithm.
+    NoLogarithm = 9,
+    /// The power is above 254.
+    PowerRange = 10,
+    /// The sheet is not 21 bytes long.
+    SheetLength = 11,
+    /// The sheet does not begin with its mark.
+    MarkWrong = 12,
+    /// The sheet's version is not 1.
+    VersionUnknown = 13,
+}
+
+/// Number, name and meaning are said here and nowhere else in this crate.
+const REFUSALS: [(Refusal, &str, &str); 13] = [
+    (Refusal::KeyLength, "KEY_LENGTH", "the key is not 32 bytes long"),
+    (Refusal::ScheduleLength, "SCHEDULE_LENGTH", "the schedule is not 240 bytes long"),
+    (Refusal::InputLength, "INPUT_LENGTH", "the input block is not 16 bytes long"),
+    (Refusal::OutputLength, "OUTPUT_LENGTH", "the output block is not 16 bytes long"),
+    (Refusal::MasksLength, "MASKS_LENGTH", "the mask table is not 16 bytes long"),
+    (Refusal::OffsetRange, "OFFSET_RANGE", "the offset is above 15"),
+    (Refusal::FormUnknown, "FORM_UNKNOWN", "the form is neither 0 nor 1"),
+    (Refusal::RecordLength, "RECORD_LENGTH", "the record is not 1,136 bytes long"),
+    (Refusal::NoLogarithm, "NO_LOGARITHM", "00 has no logarithm"),
+    (Refusal::PowerRange, "POWER_RANGE", "the power is above 254"),
+    (Refusal::SheetLength, "SHEET_LENGTH", "the sheet is not 21 bytes long"),
+    (Refusal::MarkWrong, "MARK_WRONG", "the sheet does not begin with its mark, 4d 53 4b"),
+    (Refusal::VersionUnknown, "VERSION_UNKNOWN", "the sheet's version is not 1"),
+];
+
+impl Refusal {
+    /// The refusal with a number, if there is one.
+    ///
+    /// ```
+    /// use slipgrease::Refusal;
+    /// assert_eq!(Refusal::from_number(13), Some(Refusal::VersionUnknown));
+    /// assert_eq!(Refusal::from_number(0), None);
+    /// ```
+    pub fn from_number(number: u8) -> Option<Refusal> {
+        REFUSALS.iter().map(|row| row.0).find(|refusal| refusal.number() == number)
+    }
+
+    /// The reply number, 1 to 13.
+    pub fn number(self) -> u8 {
+        self as u8
+    }
+
+    /// The name that the number has in the library's sources and in the header for C, there behind `SLIPGREASE_REPLY_`.
+    pub fn name(self) -> &'static str {
+        self.row().1
+    }
+
+    /// What the number means.
+    pub fn meaning(self) -> &'static str {
+        self.row().2
+    }
+
+    /// Whose fault it is, by the library's own sorter.
+    pub fn fault(self) -> Option<Fault> {
+        sort_reply(self.number())
+    }
+
+    fn row(self) -> &'static (Refusal, &'static str, &'static str) {
+        &REFUSALS[usize::from(self.number()) - 1]
+    }
+
+    /// What a reply number says of a call: done, or why not.
+    pub(crate) fn check(number: u8) -> Result<(), Refusal> {
+        match Refusal::from_number(number) {
+            None if number == 0 => Ok(()),
+            None => unreachable!("the library answered {number}, which no promise names"),
+            Some(refusal) => Err(refusal),
+        }
+    }
+}
+
+impl fmt::Display for Refusal {
+    fn fmt(&self, f: &mut fmt::Formatter) -> fmt::Result {
+        write!(f, "{} (reply {}, {})", self.meaning(), self.number(), self.name())
+    }
+}
+
+impl std::error::Error for Refusal {}
+
+/// Whose fault a refusal is.
+#[derive(Clone, Copy, Debug, PartialEq, Eq, Hash)]
+pub enum Fault {
+    /// What was handed over has the wrong shape.
+    Caller,
+    /// What was handed over has the right shape and cannot be taken.
+    Data,
+}
+
+/// Sorts any reply number as a module's host does: `None` is to go on.
+///
+/// ```
+/// use slipgrease::{sort_reply, Fault};
+/// assert_eq!(sort_reply(0), None);
+/// assert_eq!(sort_reply(8), Some(Fault::Caller));
+/// assert_eq!(sort_reply(9), Some(Fault::Data));
+/// assert_eq!(sort_reply(14), Some(Fault::Caller));
+/// ```
+pub fn sort_reply(number: u8) -> Option<Fault> {
+    match calls::sort_reply(number) {
+        0 => None,
+        2 => Some(Fault::Data),
+        _ => Some(Fault::Caller),
+    }
+}
+
+#[cfg(test)]
+mod tests {
+    use super::REFUSALS;
+
+    /// The library's own list, from the sources beside this crate: `pub const KEY_LENGTH: u8 = 1;`.
+    #[test]
+    fn numbers_and_names_are_the_library_s() {
+        let source = include_str!("../../crates/aes/src/reply.rt");
+        let listed: Vec<(String, u8)> = source
+            .lines()
+            .filter_map(|line| line.strip_prefix("pub const ")?.strip_suffix(';')?.split_once(": u8 = "))
+            .map(|(name, number)| (name.to_string(), number.parse().unwrap()))
+            .collect();
+        let mut mine = vec![("DONE".to_string(), 0)];
+        mine.extend(REFUSALS.iter().map(|row| (row.1.to_string(), row.0.number())));
+        assert_eq!(mine, listed);
+    }
+
+    #[test]
+    fn each_row_is_found_by_its_number() {
+        for (index, row) in REFUSALS.iter().enumerate() {
+            assert_eq!(usize::from(row.0.number()), index + 1);
+        }
+    }
+}

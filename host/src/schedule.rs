@@ -1,0 +1,112 @@
+//! A key schedule, and the runs with it that cannot be refused.
+
+use crate::masks::{Form, Masks, Offset};
+use crate::record::Record;
+use crate::refusal::Refusal;
+use crate::slices;
+use std::fmt;
+
+/// Sixteen bytes in, sixteen bytes out.
+pub type Block = [u8; 16];
+
+/// The lengths are in the types, so no call below can be refused.
+const FITS: &str = "every length is right by its type";
+
+/// The fifteen round keys of AES-256, 240 bytes. Any 240 bytes are taken.
+///
+/// ```
+/// use slipgrease::{Refusal, Schedule};
+///
+/// let schedule = Schedule::expand(&[0; 32]);
+/// assert_eq!(Schedule::try_from(&schedule.as_bytes()[..]), Ok(schedule));
+/// assert_eq!(Schedule::try_from(&[0; 239][..]), Err(Refusal::ScheduleLength));
+/// ```
+#[derive(Clone, PartialEq, Eq)]
+pub struct Schedule([u8; 240]);
+
+impl Schedule {
+    /// The schedule of a key, by FIPS 197's KEYEXPANSION.
+    pub fn expand(key: &[u8; 32]) -> Schedule {
+        let mut bytes = [0; 240];
+        slices::expand_key(key, &mut bytes).expect(FITS);
+        Schedule(bytes)
+    }
+
+    /// A schedule of 240 bytes.
+    pub fn new(bytes: [u8; 240]) -> Schedule {
+        Schedule(bytes)
+    }
+
+    /// The 240 bytes, round key k from 16 k on.
+    pub fn as_bytes(&self) -> &[u8; 240] {
+        &self.0
+    }
+
+    /// FIPS 197's CIPHER.
+    pub fn encrypt(&self, block: &Block) -> Block {
+        let mut output = [0; 16];
+        slices::encrypt(&self.0, block, &mut output).expect(FITS);
+        output
+    }
+
+    /// FIPS 197's INVCIPHER.
+    pub fn decrypt(&self, block: &Block) -> Block {
+        let mut output = [0; 16];
+        slices::decrypt(&self.0, block, &mut output).expect(FITS);
+        output
+    }
+
+    /// The 71 states of a plain encryption.
+    pub fn record(&self, block: &Block) -> Record {
+        let mut states = [0; 1136];
+        slices::record_plain(&self.0, block, &mut states).expect(FITS);
+        Record::new(states)
+    }
+
+    /// The block that a masked run with the published masks ends with.
+    pub fn encrypt_published(&self, block: &Block, offset: Offset, form: Form) -> Block {
+        let mut output = [0; 16];
+        slices::encrypt_published(&self.0, block, &mut output, offset.number(), form as u8).expect(FITS);
+        output
+    }
+
+    /// The block that a masked run with any sixteen masks ends with.
+    pub fn encrypt_masked(&self, block: &Block, masks: &Masks, offset: Offset, form: Form) -> Block {
+        let mut output = [0; 16];
+        slices::encrypt_masked(&self.0, block, &mut output, masks.as_bytes(), offset.number(), form as u8).expect(FITS);
+        output
+    }
+
+    /// The 71 states of a masked run in the standard form.
+    ///
+    /// ```
+    /// use slipgrease::{Masks, Offset, Schedule};
+    ///
+    /// let schedule = Schedule::expand(&[1; 32]);
+    /// let plain = schedule.record(&[2; 16]);
+    /// let covered = schedule.record_masked(&[2; 16], &Masks::PUBLISHED, Offset::new(3).unwrap());
+    /// assert_ne!(covered.state(0), plain.state(0));
+    /// assert_eq!(covered.state(70), plain.state(70));
+    /// assert_eq!(covered.state(70), &schedule.encrypt(&[2; 16]));
+    /// ```
+    pub fn record_masked(&self, block: &Block, masks: &Masks, offset: Offset) -> Record {
+        let mut states = [0; 1136];
+        slices::record_masked(&self.0, block, masks.as_bytes(), offset.number(), &mut states).expect(FITS);
+        Record::new(states)
+    }
+}
+
+impl TryFrom<&[u8]> for Schedule {
+    type Error = Refusal;
+
+    fn try_from(bytes: &[u8]) -> Result<Schedule, Refusal> {
+        bytes.try_into().map(Schedule).map_err(|_| Refusal::ScheduleLength)
+    }
+}
+
+/// Says nothing of the bytes: they are a key's.
+impl fmt::Debug for Schedule {
+    fn fmt(&self, f: &mut fmt::Formatter) -> fmt::Result {
+        f.write_str("Schedule(..)")
+    }
+}

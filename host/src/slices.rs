@@ -1,0 +1,208 @@
+//! Every call of the library over slices of any length: the lengths are the library's to judge.
+//!
+//! Buffers that are written share no byte with others, which Rust sees to.
+
+use crate::calls;
+use crate::refusal::Refusal;
+
+/// Writes the 240 bytes of FIPS 197's KEYEXPANSION of a key.
+///
+/// Refused, in this order: key not 32 bytes, schedule not 240.
+///
+/// ```
+/// let mut schedule = [0; 240];
+/// slipgrease::expand_key(&[0; 32], &mut schedule)?;
+/// assert_eq!(schedule[32..36], [0x62, 0x63, 0x63, 0x63]);
+/// # Ok::<(), slipgrease::Refusal>(())
+/// ```
+pub fn expand_key(key: &[u8], schedule: &mut [u8]) -> Result<(), Refusal> {
+    Refusal::check(calls::expand_key(key, schedule))
+}
+
+/// Writes FIPS 197's CIPHER of a block.
+///
+/// Refused, in this order: schedule not 240 bytes, input not 16, output not 16.
+///
+/// ```
+/// use slipgrease::Refusal;
+///
+/// let mut output = [0x55; 16];
+/// assert_eq!(slipgrease::encrypt(&[0; 240], &[0; 15], &mut output), Err(Refusal::InputLength));
+/// assert_eq!(output, [0x55; 16]);
+/// ```
+pub fn encrypt(schedule: &[u8], input: &[u8], output: &mut [u8]) -> Result<(), Refusal> {
+    Refusal::check(calls::encrypt(schedule, input, output))
+}
+
+/// Writes FIPS 197's INVCIPHER of a block. Refused as [`encrypt`] is.
+///
+/// ```
+/// let (schedule, block) = ([3; 240], [5; 16]);
+/// let (mut there, mut back) = ([0; 16], [0; 16]);
+/// slipgrease::encrypt(&schedule, &block, &mut there)?;
+/// slipgrease::decrypt(&schedule, &there, &mut back)?;
+/// assert_eq!(back, block);
+/// # Ok::<(), slipgrease::Refusal>(())
+/// ```
+pub fn decrypt(schedule: &[u8], input: &[u8], output: &mut [u8]) -> Result<(), Refusal> {
+    Refusal::check(calls::decrypt(schedule, input, output))
+}
+
+/// Writes the 71 states of a plain encryption, 1,136 bytes.
+///
+/// Refused, in this order: schedule not 240 bytes, input not 16, record not 1,136.
+///
+/// ```
+/// let mut states = [0; 1136];
+/// slipgrease::record_plain(&[3; 240], &[5; 16], &mut states)?;
+/// assert_eq!((&states[..16], &states[16..32]), (&[5; 16][..], &[5 ^ 3; 16][..]));
+/// # Ok::<(), slipgrease::Refusal>(())
+/// ```
+pub fn record_plain(schedule: &[u8], input: &[u8], states: &mut [u8]) -> Result<(), Refusal> {
+    Refusal::check(calls::record_plain(schedule, input, states))
+}
+
+/// Writes the block that a masked run with the published masks ends with: in form 0 what [`encrypt`] writes, at every offset.
+///
+/// Refused, in this order: schedule not 240 bytes, input not 16, output not 16, offset above 15, form not 0 or 1.
+///
+/// ```
+/// let (mut plain, mut masked) = ([0; 16], [0; 16]);
+/// slipgrease::encrypt(&[3; 240], &[5; 16], &mut plain)?;
+/// slipgrease::encrypt_published(&[3; 240], &[5; 16], &mut masked, 11, 0)?;
+/// assert_eq!(masked, plain);
+/// # Ok::<(), slipgrease::Refusal>(())
+/// ```
+pub fn encrypt_published(schedule: &[u8], input: &[u8], output: &mut [u8], offset: u8, form: u8) -> Result<(), Refusal> {
+    Refusal::check(calls::encrypt_published(schedule, input, output, offset, form))
+}
+
+/// The same with any sixteen masks.
+///
+/// Refused, in this order: schedule not 240 bytes, input not 16, output not 16, masks not 16, offset above 15, form not 0 or 1.
+///
+/// ```
+/// let (mut plain, mut printed) = ([0; 16], [0; 16]);
+/// slipgrease::encrypt(&[3; 240], &[5; 16], &mut plain)?;
+/// slipgrease::encrypt_masked(&[3; 240], &[5; 16], &mut printed, &[0xc4; 16], 11, 1)?;
+/// assert_eq!(printed, plain.map(|byte| byte ^ 0xc4));
+/// # Ok::<(), slipgrease::Refusal>(())
+/// ```
+pub fn encrypt_masked(
+    schedule: &[u8],
+    input: &[u8],
+    output: &mut [u8],
+    masks: &[u8],
+    offset: u8,
+    form: u8,
+) -> Result<(), Refusal> {
+    Refusal::check(calls::encrypt_masked(schedule, input, output, masks, offset, form))
+}
+
+/// Writes the 71 states of a masked run in form 0, 1,136 bytes.
+///
+/// Refused, in this order: schedule not 240 bytes, input not 16, masks not 16, offset above 15, record not 1,136.
+///
+/// ```
+/// let (mut plain, mut covered) = ([0; 1136], [0; 1136]);
+/// slipgrease::record_plain(&[3; 240], &[5; 16], &mut plain)?;
+/// slipgrease::record_masked(&[3; 240], &[5; 16], &[0; 16], 11, &mut covered)?;
+/// assert_eq!(covered, plain, "sixteen masks 00 cover nothing");
+/// # Ok::<(), slipgrease::Refusal>(())
+/// ```
+pub fn record_masked(schedule: &[u8], input: &[u8], masks: &[u8], offset: u8, states: &mut [u8]) -> Result<(), Refusal> {
+    Refusal::check(calls::record_masked(schedule, input, masks, offset, states))
+}
+
+/// Writes the sixteen masks of a sheet.
+///
+/// Refused, in this order: sheet not 21 bytes, mark wrong, version not 1, masks not 16 bytes.
+///
+/// ```
+/// let mut masks = [0; 16];
+/// slipgrease::read_sheet(b"MSK\x00\x01sixteen bytes...", &mut masks)?;
+/// assert_eq!(&masks, b"sixteen bytes...");
+/// # Ok::<(), slipgrease::Refusal>(())
+/// ```
+pub fn read_sheet(sheet: &[u8], masks: &mut [u8]) -> Result<(), Refusal> {
+    Refusal::check(calls::read_sheet(sheet, masks))
+}
+
+/// Writes the sheet of sixteen masks, 21 bytes.
+///
+/// Refused, in this order: sheet not 21 bytes, masks not 16.
+///
+/// ```
+/// let mut sheet = [0; 21];
+/// slipgrease::write_sheet(b"sixteen bytes...", &mut sheet)?;
+/// assert_eq!(&sheet, b"MSK\x00\x01sixteen bytes...");
+/// # Ok::<(), slipgrease::Refusal>(())
+/// ```
+pub fn write_sheet(masks: &[u8], sheet: &mut [u8]) -> Result<(), Refusal> {
+    Refusal::check(calls::write_sheet(masks, sheet))
+}
+
+/// Whether a mask table is fit: its sixteen bytes are all different.
+///
+/// Refused: masks not 16 bytes.
+///
+/// ```
+/// assert_eq!(slipgrease::fitness(b"0123456789abcdef"), Ok(true));
+/// assert_eq!(slipgrease::fitness(b"0123456789abcde0"), Ok(false));
+/// ```
+pub fn fitness(masks: &[u8]) -> Result<bool, Refusal> {
+    valued(calls::fitness(masks)).map(|value| value == 1)
+}
+
+/// The product of two bytes in FIPS 197's field.
+///
+/// ```
+/// assert_eq!(slipgrease::multiply(0x57, 0x83), 0xc1);
+/// ```
+pub fn multiply(a: u8, b: u8) -> u8 {
+    calls::multiply(a, b)
+}
+
+/// The inverse of a byte, and 00 for 00.
+///
+/// ```
+/// assert_eq!(slipgrease::inverse(0x53), 0xca);
+/// ```
+pub fn inverse(x: u8) -> u8 {
+    calls::inverse(x)
+}
+
+/// Which power of 03 a byte is. Refused: 00.
+///
+/// ```
+/// assert_eq!(slipgrease::logarithm(0x03), Ok(1));
+/// assert_eq!(slipgrease::logarithm(0x00), Err(slipgrease::Refusal::NoLogarithm));
+/// ```
+pub fn logarithm(x: u8) -> Result<u8, Refusal> {
+    valued(calls::logarithm(x))
+}
+
+/// 03 to the power n, n being 0 to 254. Refused: 255.
+///
+/// ```
+/// assert_eq!(slipgrease::power(254), Ok(slipgrease::inverse(0x03)));
+/// assert_eq!(slipgrease::power(255), Err(slipgrease::Refusal::PowerRange));
+/// ```
+pub fn power(n: u8) -> Result<u8, Refusal> {
+    valued(calls::power(n))
+}
+
+/// The inverse of x xor r, xored with r: a covered byte and its mask give the covered inverse.
+///
+/// ```
+/// assert_eq!(slipgrease::masked_inverse(0x00, 0x53), 0x99);
+/// ```
+pub fn masked_inverse(x: u8, r: u8) -> u8 {
+    calls::masked_inverse(x, r)
+}
+
+/// A number and a value come as one, number * 256 + value.
+fn valued(both: u16) -> Result<u8, Refusal> {
+    let [number, value] = both.to_be_bytes();
+    Refusal::check(number).map(|()| value)
+}
