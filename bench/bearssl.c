@@ -1,0 +1,70 @@
+// BearSSL as a peer, four of its implementations. It has no call for a bare block, so each is asked for CBC of one block with a
+// vector of zeros.
+#include <bearssl.h>
+
+#include <string.h>
+
+#include "peer.h"
+
+// Its calls have the same shape for each implementation and are named after it.
+#define BEARSSL(way)                                                                                                     \
+    static br_aes_##way##_cbcenc_keys way##_encrypting;                                                                  \
+    static br_aes_##way##_cbcdec_keys way##_decrypting;                                                                  \
+                                                                                                                         \
+    static void way##_expand_key(const uint8_t key[32])                                                                  \
+    {                                                                                                                    \
+        br_aes_##way##_cbcenc_init(&way##_encrypting, key, 32);                                                          \
+    }                                                                                                                    \
+                                                                                                                         \
+    static void way##_start(const uint8_t key[32])                                                                       \
+    {                                                                                                                    \
+        way##_expand_key(key);                                                                                           \
+        br_aes_##way##_cbcdec_init(&way##_decrypting, key, 32);                                                          \
+    }                                                                                                                    \
+                                                                                                                         \
+    static void way##_encrypt(const uint8_t input[16], uint8_t output[16])                                               \
+    {                                                                                                                    \
+        uint8_t vector[16] = {0};                                                                                        \
+        memcpy(output, input, 16);                                                                                       \
+        br_aes_##way##_cbcenc_run(&way##_encrypting, vector, output, 16);                                                \
+    }                                                                                                                    \
+                                                                                                                         \
+    static void way##_decrypt(const uint8_t input[16], uint8_t output[16])                                               \
+    {                                                                                                                    \
+        uint8_t vector[16] = {0};                                                                                        \
+        memcpy(output, input, 16);                                                                                       \
+        br_aes_##way##_cbcdec_run(&way##_decrypting, vector, output, 16);                                                \
+    }
+
+BEARSSL(big)
+BEARSSL(small)
+BEARSSL(ct64)
+BEARSSL(x86ni)
+
+static const char *big_name(void)
+{
+    return "BearSSL big, tables";
+}
+
+static const char *small_name(void)
+{
+    return "BearSSL small, S alone";
+}
+
+static const char *ct64_name(void)
+{
+    return "BearSSL ct64, bit slices";
+}
+
+static const char *x86ni_name(void)
+{
+    return br_aes_x86ni_cbcenc_get_vtable() == NULL ? NULL : "BearSSL x86ni, AES-NI";
+}
+
+const struct peer bearssl_peers[] = {
+    {"bearssl-big", big_name, big_start, big_expand_key, big_encrypt, big_decrypt},
+    {"bearssl-small", small_name, small_start, small_expand_key, small_encrypt, small_decrypt},
+    {"bearssl-ct64", ct64_name, ct64_start, ct64_expand_key, ct64_encrypt, ct64_decrypt},
+    {"bearssl-x86ni", x86ni_name, x86ni_start, x86ni_expand_key, x86ni_encrypt, x86ni_decrypt},
+    {0},
+};

@@ -1,0 +1,187 @@
+// The check of the library and of the C translation.
+#include "check.h"
+
+#include <stdio.h>
+#include <string.h>
+
+#include "translated.h"
+
+enum { CASES = 20, UNTOUCHED = 0xa5 };
+
+static const struct engine *const engines[] = {&library, &translation};
+
+// The first place at which a call of an engine is wrong is said, the others are not.
+static int wrong[2][CALLS];
+
+static void expect(int right, size_t engine, enum call call, const char *of, size_t number)
+{
+    if (!right && wrong[engine][call]++ == 0)
+        printf("%s of %s is wrong at %s %zu\n", call_names[call], engines[engine]->name, of, number);
+}
+
+static int same(const uint8_t *a, const uint8_t *b, size_t length)
+{
+    return memcmp(a, b, length) == 0;
+}
+
+// What form 1 ends with: the ciphertext under Mask(offset + 14).
+static void cover(uint8_t block[BLOCK_BYTES], const uint8_t *cipher, const uint8_t *masks, size_t offset)
+{
+    for (size_t i = 0; i < BLOCK_BYTES; i++)
+        block[i] = cipher[i] ^ masks[(offset + 14 + i) % MASK_BYTES];
+}
+
+// One of NIST's vectors. The offset goes with its number, and its key's first half are the lent masks.
+static void check_block(const struct vectors *vectors, size_t number, size_t engine)
+{
+    const struct engine *e = engines[engine];
+    const uint8_t *key = vectors->block[number].key, *masks = key;
+    const uint8_t *plain = vectors->block[number].plain, *cipher = vectors->block[number].cipher;
+    uint8_t schedule[SCHEDULE_BYTES], output[BLOCK_BYTES], form_1[BLOCK_BYTES], states[RECORD_BYTES];
+    uint8_t offset = (uint8_t)(number % 16);
+
+    memset(output, UNTOUCHED, BLOCK_BYTES);
+    memset(states, UNTOUCHED, RECORD_BYTES);
+    library.expand_key(key, KEY_BYTES, schedule, SCHEDULE_BYTES);
+    e->encrypt(schedule, SCHEDULE_BYTES, plain, BLOCK_BYTES, output, BLOCK_BYTES);
+    expect(same(output, cipher, BLOCK_BYTES), engine, ENCRYPT, "vector", number + 1);
+    e->decrypt(schedule, SCHEDULE_BYTES, cipher, BLOCK_BYTES, output, BLOCK_BYTES);
+    expect(same(output, plain, BLOCK_BYTES), engine, DECRYPT, "vector", number + 1);
+    e->encrypt_published(schedule, SCHEDULE_BYTES, plain, BLOCK_BYTES, output, BLOCK_BYTES, offset, 0);
+    expect(same(output, cipher, BLOCK_BYTES), engine, ENCRYPT_PUBLISHED, "vector", number + 1);
+    e->encrypt_published(schedule, SCHEDULE_BYTES, plain, BLOCK_BYTES, output, BLOCK_BYTES, offset, 1);
+    cover(form_1, cipher, published_masks, offset);
+    expect(same(output, form_1, BLOCK_BYTES), engine, ENCRYPT_PUBLISHED, "vector", number + 1);
+    e->encrypt_masked(schedule, SCHEDULE_BYTES, plain, BLOCK_BYTES, output, BLOCK_BYTES, masks, MASK_BYTES, offset, 0);
+    expect(same(output, cipher, BLOCK_BYTES), engine, ENCRYPT_MASKED, "vector", number + 1);
+    e->encrypt_masked(schedule, SCHEDULE_BYTES, plain, BLOCK_BYTES, output, BLOCK_BYTES, masks, MASK_BYTES, offset, 1);
+    cover(form_1, cipher, masks, offset);
+    expect(same(output, form_1, BLOCK_BYTES), engine, ENCRYPT_MASKED, "vector", number + 1);
+    e->record_masked(schedule, SCHEDULE_BYTES, plain, BLOCK_BYTES, masks, MASK_BYTES, offset, states, RECORD_BYTES);
+    expect(same(states + RECORD_BYTES - BLOCK_BYTES, cipher, BLOCK_BYTES), engine, RECORD_MASKED, "vector", number + 1);
+}
+
+// FIPS 197 A.3, and the states of C.3: under masks 00 the covered states are the plain ones.
+static void check_appendix(const struct vectors *vectors, size_t engine)
+{
+    const struct engine *e = engines[engine];
+    const uint8_t no_masks[MASK_BYTES] = {0}, *block = vectors->block[0].plain;
+    uint8_t schedule[SCHEDULE_BYTES], plain[RECORD_BYTES], covered[RECORD_BYTES];
+
+    memset(schedule, UNTOUCHED, SCHEDULE_BYTES);
+    e->expand_key(vectors->key, KEY_BYTES, schedule, SCHEDULE_BYTES);
+    for (size_t i = 0; i < SCHEDULE_BYTES; i++)
+        expect(schedule[i] == vectors->schedule[i], engine, EXPAND_KEY, "byte of A.3", i);
+    library.expand_key(vectors->block[0].key, KEY_BYTES, schedule, SCHEDULE_BYTES);
+    memset(plain, UNTOUCHED, RECORD_BYTES);
+    memset(covered, UNTOUCHED, RECORD_BYTES);
+    e->record_plain(schedule, SCHEDULE_BYTES, block, BLOCK_BYTES, plain, RECORD_BYTES);
+    e->record_masked(schedule, SCHEDULE_BYTES, block, BLOCK_BYTES, no_masks, MASK_BYTES, 0, covered, RECORD_BYTES);
+    for (size_t i = 0; i < RECORD_BYTES; i++) {
+        expect(plain[i] == vectors->states[i], engine, RECORD_PLAIN, "byte of C.3's states", i);
+        expect(covered[i] == vectors->states[i], engine, RECORD_MASKED, "byte of C.3's states", i);
+    }
+}
+
+// Numbers for inputs, the same in every run.
+static void draw(uint8_t *bytes, size_t length)
+{
+    static uint64_t seed = 1;
+    for (size_t i = 0; i < length; i++) {
+        seed = seed * 6364136223846793005 + 1442695040888963407;
+        bytes[i] = (uint8_t)(seed >> 56);
+    }
+}
+
+// A call of both engines: lengths, offset and form are given, and everything that a call can write is compared, reply and bytes.
+struct arguments {
+    size_t key, schedule, input, output, masks, states;
+    uint8_t offset, form;
+};
+
+static void compare(enum call call, const struct arguments *a, size_t number)
+{
+    uint8_t key[KEY_BYTES + 1], schedule[SCHEDULE_BYTES + 1], input[BLOCK_BYTES + 1], masks[MASK_BYTES + 1];
+    uint8_t written[2][RECORD_BYTES + 1], reply[2];
+
+    draw(key, sizeof key);
+    draw(schedule, sizeof schedule);
+    draw(input, sizeof input);
+    draw(masks, sizeof masks);
+    memset(written, UNTOUCHED, sizeof written);
+    for (size_t i = 0; i < 2; i++) {
+        const struct engine *e = engines[i];
+        uint8_t *to = written[i];
+        switch (call) {
+        case EXPAND_KEY:
+            reply[i] = e->expand_key(key, a->key, to, a->schedule);
+            break;
+        case ENCRYPT:
+            reply[i] = e->encrypt(schedule, a->schedule, input, a->input, to, a->output);
+            break;
+        case DECRYPT:
+            reply[i] = e->decrypt(schedule, a->schedule, input, a->input, to, a->output);
+            break;
+        case ENCRYPT_PUBLISHED:
+            reply[i] = e->encrypt_published(schedule, a->schedule, input, a->input, to, a->output, a->offset, a->form);
+            break;
+        case ENCRYPT_MASKED:
+            reply[i] = e->encrypt_masked(schedule, a->schedule, input, a->input, to, a->output, masks, a->masks, a->offset,
+                                         a->form);
+            break;
+        case RECORD_PLAIN:
+            reply[i] = e->record_plain(schedule, a->schedule, input, a->input, to, a->states);
+            break;
+        default:
+            reply[i] = e->record_masked(schedule, a->schedule, input, a->input, masks, a->masks, a->offset, to, a->states);
+        }
+    }
+    expect(reply[0] == reply[1] && same(written[0], written[1], sizeof written[0]), 1, call, "comparison", number);
+}
+
+static const struct arguments taken = {KEY_BYTES, SCHEDULE_BYTES, BLOCK_BYTES, BLOCK_BYTES, MASK_BYTES, RECORD_BYTES, 0, 0};
+
+static void compare_taken(enum call call)
+{
+    struct arguments a = taken;
+    size_t number = 0;
+    for (size_t i = 0; i < CASES; i++)
+        for (a.offset = 0; a.offset < 16; a.offset++)
+            for (a.form = 0; a.form < 2; a.form++)
+                compare(call, &a, ++number);
+}
+
+// Each of the arguments too small, right or too great, all together.
+static void compare_refused(enum call call)
+{
+    struct arguments a;
+    for (size_t choice = 0; choice < 3 * 3 * 3 * 3 * 3 * 3 * 2 * 2; choice++) {
+        size_t rest = choice;
+        a.key = taken.key - 1 + rest % 3;
+        a.schedule = taken.schedule - 1 + (rest /= 3) % 3;
+        a.input = taken.input - 1 + (rest /= 3) % 3;
+        a.output = taken.output - 1 + (rest /= 3) % 3;
+        a.masks = taken.masks - 1 + (rest /= 3) % 3;
+        a.states = taken.states - 1 + (rest /= 3) % 3;
+        a.offset = (uint8_t)(15 + (rest /= 3) % 2);
+        a.form = (uint8_t)(1 + rest / 2);
+        compare(call, &a, choice + 1);
+    }
+}
+
+int check_engines(const struct vectors *vectors)
+{
+    int faults = 0;
+    translated_prepare();
+    for (size_t engine = 0; engine < 2; engine++) {
+        for (size_t number = 0; number < BLOCKS; number++)
+            check_block(vectors, number, engine);
+        check_appendix(vectors, engine);
+    }
+    for (int call = 0; call < CALLS; call++) {
+        compare_taken((enum call)call);
+        compare_refused((enum call)call);
+        faults += wrong[0][call] + wrong[1][call];
+    }
+    return faults == 0;
+}

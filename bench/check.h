@@ -1,0 +1,12 @@
+// The check before anything is timed.
+#ifndef CHECK_H
+#define CHECK_H
+
+#include "engine.h"
+#include "vectors.h"
+
+// Holds the library and the C translation to the vectors, and the translation to the library on other inputs, at all offsets, in
+// both forms and where a call refuses. Prints a line for each call that is wrong; gives 1 where none is.
+int check_engines(const struct vectors *vectors);
+
+#endif

@@ -1,0 +1,36 @@
+// The library and its C translation as engines.
+#include "engine.h"
+
+#include "translated.h"
+
+#include <slipgrease.h>
+
+const char *const call_names[CALLS] = {
+    "expand_key", "encrypt", "decrypt", "encrypt_published", "encrypt_masked", "record_plain", "record_masked",
+};
+
+const struct engine library = {
+    "the library",
+    slipgrease_expand_key,
+    slipgrease_encrypt,
+    slipgrease_decrypt,
+    slipgrease_encrypt_published,
+    slipgrease_encrypt_masked,
+    slipgrease_record_plain,
+    slipgrease_record_masked,
+};
+
+const struct engine translation = {
+    "the C translation",
+    translated_expand_key,
+    translated_encrypt,
+    translated_decrypt,
+    translated_encrypt_published,
+    translated_encrypt_masked,
+    translated_record_plain,
+    translated_record_masked,
+};
+
+const uint8_t published_masks[MASK_BYTES] = {
+    0x00, 0x0f, 0x36, 0x39, 0x53, 0x5c, 0x65, 0x6a, 0x95, 0x9a, 0xa3, 0xac, 0xc6, 0xc9, 0xf0, 0xff,
+};

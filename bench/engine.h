@@ -1,0 +1,38 @@
+// The seven calls that are measured, of the library and of its C translation, under the same arguments: a slice goes as a pointer
+// and a length.
+#ifndef ENGINE_H
+#define ENGINE_H
+
+#include <stddef.h>
+#include <stdint.h>
+
+enum { KEY_BYTES = 32, SCHEDULE_BYTES = 240, BLOCK_BYTES = 16, MASK_BYTES = 16, RECORD_BYTES = 1136 };
+
+enum call { EXPAND_KEY, ENCRYPT, DECRYPT, ENCRYPT_PUBLISHED, ENCRYPT_MASKED, RECORD_PLAIN, RECORD_MASKED, CALLS };
+
+extern const char *const call_names[CALLS];
+
+struct engine {
+    const char *name;
+    uint8_t (*expand_key)(const uint8_t *key, size_t key_length, uint8_t *schedule, size_t schedule_length);
+    uint8_t (*encrypt)(const uint8_t *schedule, size_t schedule_length, const uint8_t *input, size_t input_length,
+                       uint8_t *output, size_t output_length);
+    uint8_t (*decrypt)(const uint8_t *schedule, size_t schedule_length, const uint8_t *input, size_t input_length,
+                       uint8_t *output, size_t output_length);
+    uint8_t (*encrypt_published)(const uint8_t *schedule, size_t schedule_length, const uint8_t *input, size_t input_length,
+                                 uint8_t *output, size_t output_length, uint8_t offset, uint8_t form);
+    uint8_t (*encrypt_masked)(const uint8_t *schedule, size_t schedule_length, const uint8_t *input, size_t input_length,
+                              uint8_t *output, size_t output_length, const uint8_t *masks, size_t masks_length, uint8_t offset,
+                              uint8_t form);
+    uint8_t (*record_plain)(const uint8_t *schedule, size_t schedule_length, const uint8_t *input, size_t input_length,
+                            uint8_t *states, size_t states_length);
+    uint8_t (*record_masked)(const uint8_t *schedule, size_t schedule_length, const uint8_t *input, size_t input_length,
+                             const uint8_t *masks, size_t masks_length, uint8_t offset, uint8_t *states, size_t states_length);
+};
+
+extern const struct engine library, translation;
+
+// M0 to M15.
+extern const uint8_t published_masks[MASK_BYTES];
+
+#endif

@@ -1,0 +1,36 @@
+// Whoever makes the measured calls: the library, its C translation, and the peers that were compiled in.
+#ifndef MAKER_H
+#define MAKER_H
+
+#include "engine.h"
+#include "peer.h"
+#include "vectors.h"
+
+enum { MOST_MAKERS = 16 };
+
+// One of the two is NULL.
+struct maker {
+    const char *id;
+    const struct engine *engine;
+    const struct peer *peer;
+};
+
+// Lists them, the library first; gives how many.
+size_t list_makers(struct maker makers[MOST_MAKERS]);
+
+// NULL where this machine cannot run it.
+const char *maker_name(const struct maker *maker);
+
+// A peer has the first three calls alone.
+int has_call(const struct maker *maker, enum call call);
+
+// What a maker needs before its calls are repeated.
+void start(const struct maker *maker);
+
+// Makes a call so many times, on the key and block of FIPS 197 C.3.
+void repeat(const struct maker *maker, enum call call, long times);
+
+// Holds the peers to FIPS 197 C.3. Prints a line for each that is wrong; gives 1 where none is.
+int check_peers(const struct vectors *vectors);
+
+#endif

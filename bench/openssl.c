@@ -1,0 +1,101 @@
+// OpenSSL as a peer: by EVP, one block in ECB without padding, and by AES_encrypt and its like, which are deprecated and take no
+// AES-NI. EVP takes AES-NI where the processor has it, else vpaes where it has SSSE3, else AES_encrypt, which looks up S alone;
+// OPENSSL_ia32cap in the environment can hide either from it.
+#define OPENSSL_SUPPRESS_DEPRECATED
+#include <openssl/aes.h>
+#include <openssl/crypto.h>
+#include <openssl/evp.h>
+
+#include <stdio.h>
+#include <stdlib.h>
+#include <string.h>
+
+#include "peer.h"
+
+static EVP_CIPHER_CTX *forwards, *backwards;
+static AES_KEY encrypting, decrypting;
+
+static void stop_unless(int done)
+{
+    if (!done) {
+        fputs("OpenSSL refused a call\n", stderr);
+        exit(1);
+    }
+}
+
+// Bits 41 and 57 of the processor's features as OpenSSL sees them are SSSE3 and AES-NI.
+static const char *evp_name(void)
+{
+    static char name[80];
+    const char *settings = OPENSSL_info(OPENSSL_INFO_CPU_SETTINGS);
+    const char *value = settings == NULL ? NULL : strchr(settings, '=');
+    unsigned long long features = value == NULL ? 0 : strtoull(value + 1, NULL, 16);
+    const char *way = features >> 57 & 1 ? "AES-NI" : features >> 41 & 1 ? "vpaes" : "S alone";
+    snprintf(name, sizeof name, "OpenSSL %s EVP, %s", OpenSSL_version(OPENSSL_VERSION_STRING), way);
+    return name;
+}
+
+static void evp_start(const uint8_t key[32])
+{
+    // Without the machine's own configuration, and without what only makes start and end longer.
+    const uint64_t without = OPENSSL_INIT_NO_LOAD_CONFIG | OPENSSL_INIT_NO_LOAD_CRYPTO_STRINGS | OPENSSL_INIT_NO_ADD_ALL_CIPHERS |
+                             OPENSSL_INIT_NO_ADD_ALL_DIGESTS | OPENSSL_INIT_NO_ATEXIT;
+    stop_unless(OPENSSL_init_crypto(without, NULL));
+    EVP_CIPHER *cipher = EVP_CIPHER_fetch(NULL, "AES-256-ECB", NULL);
+    stop_unless(cipher != NULL);
+    forwards = EVP_CIPHER_CTX_new();
+    backwards = EVP_CIPHER_CTX_new();
+    stop_unless(EVP_EncryptInit_ex2(forwards, cipher, key, NULL, NULL) && EVP_CIPHER_CTX_set_padding(forwards, 0));
+    stop_unless(EVP_DecryptInit_ex2(backwards, cipher, key, NULL, NULL) && EVP_CIPHER_CTX_set_padding(backwards, 0));
+}
+
+static void evp_expand_key(const uint8_t key[32])
+{
+    stop_unless(EVP_EncryptInit_ex2(forwards, NULL, key, NULL, NULL));
+}
+
+static void evp_encrypt(const uint8_t input[16], uint8_t output[16])
+{
+    int length;
+    stop_unless(EVP_EncryptUpdate(forwards, output, &length, input, 16));
+}
+
+static void evp_decrypt(const uint8_t input[16], uint8_t output[16])
+{
+    int length;
+    stop_unless(EVP_DecryptUpdate(backwards, output, &length, input, 16));
+}
+
+static const char *aes_name(void)
+{
+    static char name[80];
+    snprintf(name, sizeof name, "OpenSSL %s no EVP, S alone", OpenSSL_version(OPENSSL_VERSION_STRING));
+    return name;
+}
+
+static void aes_expand_key(const uint8_t key[32])
+{
+    stop_unless(AES_set_encrypt_key(key, 256, &encrypting) == 0);
+}
+
+static void aes_start(const uint8_t key[32])
+{
+    aes_expand_key(key);
+    stop_unless(AES_set_decrypt_key(key, 256, &decrypting) == 0);
+}
+
+static void aes_encrypt(const uint8_t input[16], uint8_t output[16])
+{
+    AES_encrypt(input, output, &encrypting);
+}
+
+static void aes_decrypt(const uint8_t input[16], uint8_t output[16])
+{
+    AES_decrypt(input, output, &decrypting);
+}
+
+const struct peer openssl_peers[] = {
+    {"openssl-evp", evp_name, evp_start, evp_expand_key, evp_encrypt, evp_decrypt},
+    {"openssl-aes", aes_name, aes_start, aes_expand_key, aes_encrypt, aes_decrypt},
+    {0},
+};

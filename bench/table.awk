@@ -1,0 +1,63 @@
+# Prints the benchmark's table of what was timed and counted: awk -f table.awk kind=times FILE kind=off FILE kind=counts FILE.
+# Lines of times are call, name, nanoseconds and noise in per cent; `off` are those where AES-NI was hidden, with the library
+# timed again beside them; counts are call, name and instructions.
+function grouped(number,   text) {
+    if (number == "") return "-"
+    text = number
+    while (text ~ /[0-9][0-9][0-9][0-9](,|$)/) sub(/[0-9][0-9][0-9](,|$)/, ",&", text)
+    return text
+}
+function ratio(a, b) { return a == "" || b == "" ? "-" : sprintf("%.2f", a / b) }
+function greater(a, b) { return a + 0 > b + 0 ? a : b }
+function nanoseconds(number) { return number == "" ? "-" : sprintf("%.0f", number) }
+function percent(number) { return number == "" ? "-" : sprintf("%.0f %%", number) }
+function target(text, bound, instructions, others,   verdict) {
+    verdict = instructions <= bound * others ? "met" : "missed"
+    if (instructions == "" || others == "") verdict = "not counted"
+    printf "%-50s at most %.1f  %6s  %s\n", text, bound, ratio(instructions, others), verdict
+}
+BEGIN { FS = "\t"; ours = "the library"; c = "the C translation" }
+
+kind == "counts" { count[$1, $2] = $3; if (!(($1, $2) in time)) time[$1, $2] = "" }
+kind == "times" || kind == "off" {
+    if (kind == "off" && $2 == ours) { again[$1] = $3; next }
+    time[$1, $2] = $3
+    noise[$1, $2] = $4
+    own[$1, $2] = kind == "off" ? again[$1] : time[$1, ours]
+}
+!($1 in seen) { seen[$1] = 1; call[++calls] = $1 }
+!(($1, $2) in listed) && $2 != ours && $2 != c { listed[$1, $2] = any_peer = 1; peer[$1, ++peers[$1]] = $2 }
+
+END {
+    print "Beside the same steps in C"
+    print ""
+    printf "%-19s %19s %31s\n", "", "nanoseconds", "instructions"
+    printf "%-19s %8s %8s %6s %7s %9s %9s %6s\n", "call", "ours", "C", "ratio", "noise", "ours", "C", "ratio"
+    for (i = 1; i <= calls; i++) {
+        n = call[i]
+        printf "%-19s %8s %8s %6s %7s %9s %9s %6s\n", n, nanoseconds(time[n, ours]), nanoseconds(time[n, c]),
+            ratio(time[n, ours], time[n, c]), percent(greater(noise[n, ours], noise[n, c])),
+            grouped(count[n, ours]), grouped(count[n, c]), ratio(count[n, ours], count[n, c])
+    }
+    print ""
+    print "Targets, by instructions"
+    print ""
+    target("encrypt beside its translation", 1.0, count["encrypt", ours], count["encrypt", c])
+    target("encrypt_published beside its translation", 1.0, count["encrypt_published", ours], count["encrypt_published", c])
+    target("encrypt_masked beside its translation", 0.7, count["encrypt_masked", ours], count["encrypt_masked", c])
+    target("encrypt_published beside encrypt", 1.5, count["encrypt_published", ours], count["encrypt", ours])
+    if (!any_peer) exit
+    print ""
+    print "Beside other libraries"
+    print ""
+    printf "%-11s %-36s %8s %8s %7s %9s %8s\n", "call", "by", "ns", "ours/it", "noise", "instr.", "ours/it"
+    for (i = 1; i <= calls; i++) {
+        n = call[i]
+        for (k = 1; k <= peers[n]; k++) {
+            p = peer[n, k]
+            printf "%-11s %-36s %8s %8s %7s %9s %8s\n", n, p, nanoseconds(time[n, p]), ratio(own[n, p], time[n, p]),
+                percent(noise[n, p]), grouped(count[n, p]), ratio(count[n, ours], count[n, p])
+        }
+        if (peers[n] && peers[call[i + 1]]) print ""
+    }
+}

@@ -1,0 +1,46 @@
+// C translations of the library's steps, to be compared with it: the same checks in the same order, the same reply numbers, the
+// same steps over a state of sixteen bytes, written as C is. Buffers do not overlap, as with the library.
+#ifndef TRANSLATED_H
+#define TRANSLATED_H
+
+#include <stddef.h>
+#include <stdint.h>
+
+enum reply {
+    DONE = 0,
+    KEY_LENGTH = 1,
+    SCHEDULE_LENGTH = 2,
+    INPUT_LENGTH = 3,
+    OUTPUT_LENGTH = 4,
+    MASKS_LENGTH = 5,
+    OFFSET_RANGE = 6,
+    FORM_UNKNOWN = 7,
+    RECORD_LENGTH = 8,
+};
+
+uint8_t translated_expand_key(const uint8_t *key, size_t key_length, uint8_t *schedule, size_t schedule_length);
+
+uint8_t translated_encrypt(const uint8_t *schedule, size_t schedule_length, const uint8_t *input, size_t input_length,
+                           uint8_t *output, size_t output_length);
+
+uint8_t translated_decrypt(const uint8_t *schedule, size_t schedule_length, const uint8_t *input, size_t input_length,
+                           uint8_t *output, size_t output_length);
+
+uint8_t translated_record_plain(const uint8_t *schedule, size_t schedule_length, const uint8_t *input, size_t input_length,
+                                uint8_t *states, size_t states_length);
+
+// Works out the boxes and constants of the published masks, which the library has stored: once, before the call that reads them.
+void translated_prepare(void);
+
+uint8_t translated_encrypt_published(const uint8_t *schedule, size_t schedule_length, const uint8_t *input, size_t input_length,
+                                     uint8_t *output, size_t output_length, uint8_t offset, uint8_t form);
+
+uint8_t translated_encrypt_masked(const uint8_t *schedule, size_t schedule_length, const uint8_t *input, size_t input_length,
+                                  uint8_t *output, size_t output_length, const uint8_t *masks, size_t masks_length,
+                                  uint8_t offset, uint8_t form);
+
+uint8_t translated_record_masked(const uint8_t *schedule, size_t schedule_length, const uint8_t *input, size_t input_length,
+                                 const uint8_t *masks, size_t masks_length, uint8_t offset, uint8_t *states,
+                                 size_t states_length);
+
+#endif

@@ -1,0 +1,80 @@
+// Reads the vectors: text, a section after each line that begins with #, fields in hex.
+#include "vectors.h"
+
+#include <stdio.h>
+#include <stdlib.h>
+#include <string.h>
+
+enum { LINE = 1024, POINTS = RECORD_BYTES / BLOCK_BYTES };
+
+static int read_hex(const char *text, uint8_t *bytes, size_t length)
+{
+    if (text == NULL || strlen(text) != 2 * length || strspn(text, "0123456789abcdef") != 2 * length)
+        return 0;
+    for (size_t i = 0; i < length; i++) {
+        char digits[3] = {text[2 * i], text[2 * i + 1], 0};
+        bytes[i] = (uint8_t)strtoul(digits, NULL, 16);
+    }
+    return 1;
+}
+
+// KEY PLAINTEXT CIPHERTEXT
+static int read_block(char *line, struct vectors *vectors, size_t number)
+{
+    return number < BLOCKS && read_hex(strtok(line, " "), vectors->block[number].key, KEY_BYTES) &&
+           read_hex(strtok(NULL, " "), vectors->block[number].plain, BLOCK_BYTES) &&
+           read_hex(strtok(NULL, " "), vectors->block[number].cipher, BLOCK_BYTES);
+}
+
+// ROUND NAME STATE, named as in the appendix: which points have the state. The plain run has nothing to do at the fifth point of
+// a round, so the state before it stands there again. The keys are not states.
+static int read_round(char *line, struct vectors *vectors, size_t *points)
+{
+    const char *round = strtok(line, " "), *name = strtok(NULL, " "), *state = strtok(NULL, " ");
+    if (round == NULL || name == NULL)
+        return 0;
+    if (strcmp(name, "k_sch") == 0)
+        return 1;
+    size_t repeated = strcmp(name, "m_col") == 0 || strcmp(name, "output") == 0 ? 2 : 1;
+    for (size_t i = 0; i < repeated; i++, (*points)++)
+        if (*points == POINTS || !read_hex(state, vectors->states + BLOCK_BYTES * *points, BLOCK_BYTES))
+            return 0;
+    return 1;
+}
+
+int read_vectors(const char *path, struct vectors *vectors)
+{
+    char line[LINE], section[LINE] = "";
+    size_t number = 0, blocks = 0, keys = 0, points = 0;
+    FILE *file = fopen(path, "r");
+    if (file == NULL) {
+        perror(path);
+        return 0;
+    }
+    while (fgets(line, LINE, file) != NULL) {
+        int read = 1;
+        number++;
+        line[strcspn(line, "\n")] = 0;
+        if (line[0] == '#')
+            strcpy(section, line);
+        else if (strcmp(section, "# ecb") == 0)
+            read = read_block(line, vectors, blocks++);
+        else if (strcmp(section, "# key expansion") == 0)
+            read = keys++ == 0 && read_hex(strtok(line, " "), vectors->key, KEY_BYTES) &&
+                   read_hex(strtok(NULL, " "), vectors->schedule, SCHEDULE_BYTES);
+        else if (strcmp(section, "# rounds") == 0)
+            read = read_round(line, vectors, &points);
+        if (!read) {
+            fprintf(stderr, "%s:%zu: not a vector\n", path, number);
+            fclose(file);
+            return 0;
+        }
+    }
+    fclose(file);
+    if (blocks != BLOCKS || keys != 1 || points != POINTS) {
+        fprintf(stderr, "%s: %zu blocks, %zu keys and %zu states, and not %d, 1 and %d\n", path, blocks, keys, points, BLOCKS,
+                POINTS);
+        return 0;
+    }
+    return 1;
+}

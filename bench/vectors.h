@@ -1,0 +1,24 @@
+// The vectors that everything is checked against before it is timed.
+#ifndef VECTORS_H
+#define VECTORS_H
+
+#include "engine.h"
+
+enum { BLOCKS = 520 };
+
+struct vectors {
+    // NIST's, the first of them FIPS 197 C.3.
+    struct {
+        uint8_t key[KEY_BYTES], plain[BLOCK_BYTES], cipher[BLOCK_BYTES];
+    } block[BLOCKS];
+    // FIPS 197 A.3.
+    uint8_t key[KEY_BYTES], schedule[SCHEDULE_BYTES];
+    // The states of C.3, in the order of the recorded points.
+    uint8_t states[RECORD_BYTES];
+};
+
+// Reads the sections `ecb`, `key expansion` and `rounds` of a file like crates/vectors/stdin. Gives 0, and says on standard error
+// what is wrong, where a line cannot be read or one is missing.
+int read_vectors(const char *path, struct vectors *vectors);
+
+#endif
