@@ -45,7 +45,7 @@ pub enum Refusal {
     VersionUnknown = 13,
 }
 
-/// Number, name and meaning are said here and nowhere else in this crate.
+/// The name and the meaning of each, in the order of their numbers.
 const REFUSALS: [(Refusal, &str, &str); 13] = [
     (Refusal::KeyLength, "KEY_LENGTH", "the key is not 32 bytes long"),
     (Refusal::ScheduleLength, "SCHEDULE_LENGTH", "the schedule is not 240 bytes long"),

@@ -2,7 +2,8 @@
 -- Assumes nothing.
 use mathlib.Core.Path.{_≡_, refl, sym, ap, _∙_}
 use mathlib.Core.List.{List, [], _∷_, _++_, append-assoc, append-nil}
-use Prim.Native.Nat.{ℕ, zero, suc, _+_, _*_, _-_, _≤_, _<_}
+use Prim.Native.Nat.{ℕ, zero, suc, _+_, _*_, _-_, _≤_}
+use native.Mathlib.Nat.{mul-zero, mul-suc}
 use native.Mathlib.Numerals.{add-one}
 use native.Mathlib.Omega.{arith}
 use lib.Dec.{lit≤}
@@ -50,6 +51,10 @@ pub written-none : (f : Point → List ℕ → List ℕ) (s : List ℕ) (n : ℕ
 unfolding run last bytes
 written-none f s n xs l = record { state = refl; held = holds-none n xs l }
 
+pub recorded-one : {f : Point → List ℕ → List ℕ} {t t′ ys : List ℕ} {p : Point} → t′ ≡ f p t → ys ≡ t′ → Recorded f t (p ∷ []) t′ ys
+unfolding run last bytes
+recorded-one et ey = record { end = et; held = ey ∙ et ∙ sym (append-nil _) }
+
 module _ {f : Point → List ℕ → List ℕ} (h : Sized f) {s : List ℕ} (l : length s ≡ 16) where
   -- the part from a to e is lent for the points qs
   pub written-more : {n : ℕ} {ps : List Point} {t xs : List ℕ} → Written f s n ps t xs → (qs : List Point) (a e : ℕ) {t′ ys : List ℕ}
@@ -66,9 +71,7 @@ module _ {f : Point → List ℕ → List ℕ} (h : Sized f) {s : List ℕ} (l :
   -- the part is lent for one point
   pub written-step : {n : ℕ} {ps : List Point} {t xs : List ℕ} → Written f s n ps t xs → (p : Point) (a e : ℕ) {t′ ys : List ℕ}
       → 16 * length ps ≡ a → 16 ≡ e - a → a ≤ e → e ≤ n → t′ ≡ f p t → ys ≡ t′ → Written f s n (ps ++ (p ∷ [])) t′ (back xs a (e - a) ys)
-  unfolding run last bytes
-  written-step w p a e ha he le ln et ey =
-      written-more w (p ∷ []) a e ha he le ln (record { end = et; held = ey ∙ et ∙ sym (append-nil _) })
+  written-step w p a e ha he le ln et ey = written-more w (p ∷ []) a e ha he le ln (recorded-one et ey)
 
   pub written-all : {n : ℕ} {ps : List Point} {t xs : List ℕ} → Written f s n ps t xs → 16 * length ps ≡ n → Recorded f s ps t xs
   written-all {n} {ps} {t} {xs} w e =
@@ -90,35 +93,36 @@ pub wholes-more : (n : ℕ) → wholes (n + 1) ≡ wholes n ++ whole n
 unfolding wholes
 wholes-more n = rw add-one
 
--- the points of the first n of fourteen rounds
-unfoldable pub turns : ℕ → List Point
-turns zero = []
-turns (suc n) = turns n ++ five n
+-- the points of n turns, and how many bytes they take with the block where each takes k
+abbrev pub turns : (ℕ → List Point) → ℕ → List Point
+turns ps zero = []
+turns ps (suc n) = turns ps n ++ ps n
 
-turns-all : block ∷ turns 14 ≡ points 14
-unfolding turns points wholes
-turns-all = refl
+turns-more : (ps : ℕ → List Point) (n : ℕ) → turns ps (n + 1) ≡ turns ps n ++ ps n
+turns-more ps n = rw add-one
 
-turns-more : (n : ℕ) → turns (n + 1) ≡ turns n ++ five n
-unfolding turns
-turns-more n = rw add-one
+turns-length : (ps : ℕ → List Point) (k : ℕ) → ((i : ℕ) → 16 * length (ps i) ≡ k) → (n : ℕ) → 16 * length (block ∷ turns ps n) ≡ k * n + 16
+turns-length ps k e zero = rw mul-zero
+turns-length ps k e (suc n) = simp (length-append, mul-suc) (omega (arith, turns-length ps k e n, e n))
 
-turns-length : (n : ℕ) → 16 * length (block ∷ turns n) ≡ 80 * n + 16
-unfolding turns
-turns-length zero = refl
-turns-length (suc n) = simp (length-append) (omega (arith, turns-length n))
+pub rounds-all : block ∷ turns five 14 ≡ points 14
+unfolding points wholes
+rounds-all = refl
 
 module _ {f : Point → List ℕ → List ℕ} (h : Sized f) {s : List ℕ} (l : length s ≡ 16) where
-  -- the block, a round more in the 80 bytes behind what is written, and all of them
+  -- the block, a turn more in the k bytes behind what is written, and all points gone through after m turns
   pub written-block : {t ys : List ℕ} (xs : List ℕ) → length xs ≡ 1136 → t ≡ f block s → ys ≡ t → Written f s 1136 (block ∷ []) t (back xs 0 16 ys)
   written-block xs room et ey = written-step h l (written-none f s 1136 xs room) block 0 16 refl refl (lit≤ tt) (lit≤ tt) et ey
 
-  pub written-round : {t t′ xs ys : List ℕ} (r : ℕ) → r < 14 → Written f s 1136 (block ∷ turns r) t xs → Recorded f t (five r) t′ ys
-      → Written f s 1136 (block ∷ turns (r + 1)) t′ (back xs (80 * r + 16) (80 * r + 16 + 80 - (80 * r + 16)) ys)
-  written-round r lt w d =
-      rw turns-more (written-more h l w (five r) (80 * r + 16) (80 * r + 16 + 80) (turns-length r) (omega arith) (omega arith) (omega arith) d)
+  pub written-turn : (ps : ℕ → List Point) (k : ℕ) → ((i : ℕ) → 16 * length (ps i) ≡ k) → {t t′ xs ys : List ℕ} (n : ℕ) → k * n + 16 + k ≤ 1136
+      → Written f s 1136 (block ∷ turns ps n) t xs → Recorded f t (ps n) t′ ys
+      → Written f s 1136 (block ∷ turns ps (n + 1)) t′ (back xs (k * n + 16) (k * n + 16 + k - (k * n + 16)) ys)
+  written-turn ps k e n le w d =
+      rw turns-more (written-more h l w (ps n) (k * n + 16) (k * n + 16 + k) (turns-length ps k e n) (e n ∙ omega arith) (omega arith) le d)
 
-  pub written-rounds : {t xs : List ℕ} (n : ℕ) → n ≤ 14 → 14 ≤ n → Written f s 1136 (block ∷ turns n) t xs → xs ≡ bytes (run f s (points 14))
-  written-rounds n le ge w =
-      let e : n ≡ 14 = omega (arith, le, ge) in
-      written-all h l (rw (e, turns-all) at w) (sym (ap (λ (ps : List Point). 16 * length ps) turns-all) ∙ turns-length 14) .held
+  pub written-whole : (ps : ℕ → List Point) (m : ℕ) → block ∷ turns ps m ≡ points 14 → {t xs : List ℕ} (n : ℕ) → n ≤ m → m ≤ n
+      → Written f s 1136 (block ∷ turns ps n) t xs → xs ≡ bytes (run f s (points 14))
+  unfolding points wholes
+  written-whole ps m all n le ge w =
+      let e : n ≡ m = omega (arith, le, ge) in
+      written-all h l (rw (e, all) at w) refl .held

@@ -10,18 +10,18 @@ use Rattle.aes.specs.Record.{block, bytes}
 use Rattle.aes.proofs.Given.{array-bytes}
 use Rattle.aes.proofs.Steps.{byte}
 use Rattle.aes.proofs.Undo.{add-size}
-use Rattle.aes.proofs.Written.{Written}
+use Rattle.aes.proofs.Written.{Written, turns, written-whole}
 use Rattle.masked.specs.Mask.{_⊞_, mask}
 use Rattle.masked.specs.Lent.{steps}
 use Rattle.masked.proofs.Checked.{all-sixteen}
 use Rattle.masked.proofs.Row.{one-more}
-use Rattle.masked.proofs.LentSteps.{steps-sized, after, after-written, recorded-block, recorded-so-far, recorded-all, lent-record}
+use Rattle.masked.proofs.LentSteps.{steps-sized, after, after-all, after-written, recorded-block, recorded-so-far, lent-record}
 use Rattle.masked.proofs.run.recorded.Statement.{statement}
 use Rattle.masked.proofs.run.recorded.Tie as tie
 
 abbrev Inv-loop : tie.InvT-loop
 Inv-loop input w boxes compensations offset states₀ doubles end s₀ n₀ states s n =
-    (n ≤ 70) × (length s₀ ≡ 16) × (length states ≡ 1136) × Written (steps w boxes compensations doubles offset end) s₀ 1136 (block ∷ after n) s states
+    (n ≤ 70) × (length s₀ ≡ 16) × (length states ≡ 1136) × Written (steps w boxes compensations doubles offset end) s₀ 1136 (block ∷ turns after n) s states
 
 abbrev μ-loop : tie.MeasureT-loop
 μ-loop input w boxes compensations offset states₀ doubles end s₀ n₀ states s n = 70 - n
@@ -64,7 +64,7 @@ returns c =
     let w : Bytes 240 (a .w .now) = record { size = start .pre .1; byte = λ i. byte (at (a .w .now) i) (known .shared-slice-known2 .given i) } in
     let plain = read .sixteen .ensures ∙ all-sixteen (a .input .now) (start .pre .0) in
     let first = masking .mask .ensures ∙ ap (mask (a .masks)) (make .make .ensures) in
-    recorded-all (steps-sized _ _ _ _ _ _) (l .n) (l .inv .0) (c .loop-test .left) (l .inv .1) (l .inv .3)
+    written-whole (steps-sized _ _ _ _ _ _) (l .inv .1) after 70 after-all (l .n) (l .inv .0) (c .loop-test .left) (l .inv .3)
     ∙ ap bytes
     (lent-record m w 0 (a .offset) b (covering .cover .result) (a .boxes .now) (a .compensations .now) (doubles .doubles .result) (uncovering .ending .result)
     (covering .cover .ensures .0 ∙ λ i. plain i ⊞ first i) (start .pre .2) (start .pre .3) (doubles .doubles .ensures) (uncovering .ending .ensures))
