@@ -1,5 +1,6 @@
 pub mod Xor
 pub mod Listed
+pub mod Below
 pub mod Fill
 pub mod FieldLaws
 pub mod Powers

@@ -1,5 +1,5 @@
 -- What a reply tells, for any list of checks and any work past them: a refusal is given only for its cause and changes nothing,
--- and 0 only where every check holds.
+-- and 0 where every check holds, and only there.
 -- Assumes nothing.
 use mathlib.Core.Path.{_≡_, refl, ap, subst}
 use mathlib.Core.Bool.{Bool, true, false, not, _&&_}
@@ -47,3 +47,9 @@ module _ {A : Type 0} (before done : A) where
   done-holds [] t e = (tt, refl)
   done-holds ((true else m) ∷ checks) t e = let r = done-holds checks (and-yes (not (eqb m 0)) (telling checks) t .1) e in ((tt, r .0), r .1)
   done-holds ((false else m) ∷ checks) t e = absurd (nonzero m (and-yes (not (eqb m 0)) (telling checks) t .0) e)
+
+  pub holds-done : (checks : List Check) → AllHold checks → answer checks before done ≡ (0, done)
+  unfolding AllHold
+  holds-done [] h = refl
+  holds-done ((true else m) ∷ checks) h = holds-done checks (h .1)
+  holds-done ((false else m) ∷ checks) h = absurd (h .0)

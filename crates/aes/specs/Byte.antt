@@ -1,6 +1,6 @@
 -- Bytes and tables. A byte is a number below 256; its bits are counted from 0, the lowest.
 -- Assumes nothing.
-use mathlib.Core.Bool.{true, false}
+use mathlib.Core.Bool.{Bool, true, false, _&&_}
 use mathlib.Core.List.{List, [], _∷_}
 use Prim.Native.Nat.{ℕ, zero, suc, _+_, _*_, _/_, _%_, _^_}
 use lib.Bits.{bitXor}
@@ -33,3 +33,8 @@ table f n = listed f 0 n
 unfoldable pub place : ℕ → List ℕ → ℕ
 place x [] = 0
 place x (y ∷ ys) = elim (eqb y x) [ true ↦ 0 | false ↦ suc (place x ys) ]
+
+-- p holds of all numbers below n
+unfoldable pub below : ℕ → (ℕ → Bool) → Bool
+below zero p = true
+below (suc n) p = p n && below n p

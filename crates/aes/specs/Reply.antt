@@ -2,9 +2,10 @@
 -- Assumes nothing.
 use mathlib.Core.Bool.{Bool, cond, not, _&&_}
 use mathlib.Core.List.{List, [], _∷_}
-use Prim.Native.Nat.{ℕ, _+_, _*_}
+use Prim.Native.Nat.{ℕ, _+_, _*_, _/_, _%_}
 use lib.Dec.{eqb, leb}
 use lib.ListN.{length, getD}
+use Rattle.aes.specs.Byte.{below}
 
 -- what must hold, and the reply where it does not
 infix 20 _else_
@@ -29,11 +30,21 @@ isInput input = eqb (length input) 16 else 3
 abbrev pub isOutput : List ℕ → Check
 isOutput output = eqb (length output) 16 else 4
 
+-- any number of blocks, 256 at most, and room for as many
+abbrev pub areBlocks : List ℕ → Check
+areBlocks input = eqb (length input % 16) 0 && leb (length input) 4096 else 3
+
+abbrev pub isAsLong : List ℕ → List ℕ → Check
+isAsLong input output = eqb (length output) (length input) else 4
+
 abbrev pub isMaskTable : List ℕ → Check
 isMaskTable masks = eqb (length masks) 16 else 5
 
 abbrev pub isOffset : ℕ → Check
 isOffset offset = leb offset 15 else 6
+
+abbrev pub areOffsets : List ℕ → Check
+areOffsets offsets = below (length offsets) (λ k. leb (getD offsets k 0) 15) else 6
 
 abbrev pub isForm : ℕ → Check
 isForm form = leb form 1 else 7
@@ -63,3 +74,7 @@ version sheet = getD sheet 3 0 * 256 + getD sheet 4 0
 
 abbrev pub isVersion : List ℕ → Check
 isVersion sheet = eqb (version sheet) 1 else 13
+
+-- an offset for each block
+abbrev pub hasOffsets : List ℕ → List ℕ → Check
+hasOffsets input offsets = eqb (length offsets) (length input / 16) else 14

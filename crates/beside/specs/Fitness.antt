@@ -1,16 +1,12 @@
 -- The fitness test of a mask table.
 -- Assumes nothing.
-use mathlib.Core.Bool.{Bool, true, not, cond, _&&_}
+use mathlib.Core.Bool.{Bool, not, cond}
 use mathlib.Core.List.{List, [], _∷_}
-use Prim.Native.Nat.{ℕ, zero, suc}
+use Prim.Native.Nat.{ℕ}
 use lib.Dec.{eqb}
+use Rattle.aes.specs.Byte.{below}
 use Rattle.aes.specs.State.{at}
 use Rattle.aes.specs.Reply.{answer, isMaskTable}
-
--- p holds of all numbers below n
-unfoldable pub below : ℕ → (ℕ → Bool) → Bool
-below zero p = true
-below (suc n) p = p n && below n p
 
 -- the sixteen values of f are all different
 unfoldable pub distinct : (ℕ → ℕ) → Bool

@@ -4,8 +4,9 @@ ghost use mathlib.Core.Bool.{not, cond};
 ghost use Prim.Native.Nat.{_<_};
 ghost use lib.Dec.{eqb};
 ghost use lib.ListN.{length};
+ghost use Rattle.aes.specs.Byte.{below};
 ghost use Rattle.aes.specs.State.{at};
-ghost use Rattle.beside.specs.Fitness.{below, fit, fitnessOf};
+ghost use Rattle.beside.specs.Fitness.{fit, fitnessOf};
 use aes::reply;
 use aes::reply::Valued;
 

@@ -4,6 +4,7 @@ use mathlib.Core.Path.{sym, _∙_}
 use Rattle.aes.proofs.Unique.{Unique, UniqueWriting, both}
 use Rattle.face.proofs.slipgrease_decrypt.Reads as decrypt
 use Rattle.face.proofs.slipgrease_encrypt.Reads as encrypt
+use Rattle.face.proofs.slipgrease_encrypt_blocks.Reads as encrypt-blocks
 use Rattle.face.proofs.slipgrease_encrypt_masked.Reads as encrypt-masked
 use Rattle.face.proofs.slipgrease_encrypt_published.Reads as encrypt-published
 use Rattle.face.proofs.slipgrease_expand_key.Reads as expand-key
@@ -45,6 +46,9 @@ record-plain-unique κs args e f x y p q = both x y _ _ _ p q
 
 pub encrypt-published-unique : UniqueWriting encrypt-published.Post (λ κs e. e .1 .1 .0 .now)
 encrypt-published-unique κs args e f x y p q = both x y _ _ _ p q
+
+pub encrypt-blocks-unique : UniqueWriting encrypt-blocks.Post (λ κs e. e .1 .1 .0 .now)
+encrypt-blocks-unique κs args e f x y p q = both x y _ _ _ p q
 
 pub encrypt-masked-unique : UniqueWriting encrypt-masked.Post (λ κs e. e .1 .1 .0 .now)
 encrypt-masked-unique κs args e f x y p q = both x y _ _ _ p q

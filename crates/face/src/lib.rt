@@ -3,7 +3,7 @@
 ghost use mathlib.Core.Path.{_≡_};
 ghost use Rattle.aes.specs.Field.{_•_, inverse};
 ghost use Rattle.aes.specs.Calls.{expandKeyOf, encryptOf, decryptOf, recordPlainOf, powerOf, logarithmOf};
-ghost use Rattle.masked.specs.Calls.{encryptPublishedOf, encryptMaskedOf, recordMaskedOf};
+ghost use Rattle.masked.specs.Calls.{encryptPublishedOf, encryptBlocksOf, encryptMaskedOf, recordMaskedOf};
 ghost use Rattle.masked.specs.Sheet.{readSheetOf, writeSheetOf};
 ghost use Rattle.beside.specs.Fitness.{fitnessOf};
 ghost use Rattle.beside.specs.Inversion.{maskedInverse};
@@ -51,6 +51,19 @@ pub extern "C" fn slipgrease_encrypt_published(
     ensures { λ r. ⌜ (r, now (output .exit)) ≡ encryptPublishedOf (now (schedule .entry)) (now (input .entry)) (now (output .entry)) offset form ⌝ }
 {
     masked::encrypt_published(schedule, input, output, offset, form)
+}
+
+#[no_mangle]
+pub extern "C" fn slipgrease_encrypt_blocks(
+    schedule: &[u8],
+    input: &[u8],
+    output: &mut [u8],
+    offsets: &[u8],
+    form: u8,
+) -> u8
+    ensures { λ r. ⌜ (r, now (output .exit)) ≡ encryptBlocksOf (now (schedule .entry)) (now (input .entry)) (now (output .entry)) (now (offsets .entry)) form ⌝ }
+{
+    masked::encrypt_blocks(schedule, input, output, offsets, form)
 }
 
 #[no_mangle]

@@ -12,8 +12,8 @@ use mir.Facts.{and-yes}
 use Rattle.aes.specs.Key.{roundKey}
 use Rattle.aes.specs.Reply.{Check, _else_, answer, isSchedule, isInput, isOutput, isMaskTable, isOffset, isForm}
 use Rattle.aes.proofs.Undo.{state-at}
-use Rattle.aes.proofs.Replies.{telling, nonzero}
-use Rattle.masked.specs.Calls.{checks, refusal}
+use Rattle.aes.proofs.Replies.{AllHold, telling, nonzero}
+use Rattle.masked.specs.Calls.{checks, publishedChecks, refusal}
 
 -- checks that are told together, and what is checked after them
 module _ {A : Type 0} (before done : A) (more : List Check) where
@@ -28,6 +28,13 @@ module _ {A : Type 0} (before done : A) (more : List Check) where
   passed ((true else reply) ∷ cs) t e = passed cs (and-yes (not (eqb reply 0)) (telling cs) t .1) e
   passed ((false else reply) ∷ cs) t e = absurd (nonzero reply (and-yes (not (eqb reply 0)) (telling cs) t .0) e)
 
+-- what is not refused has passed every check
+pub all-hold : (cs : List Check) → T (telling cs) → refusal cs ≡ 0 → AllHold cs
+unfolding AllHold telling
+all-hold [] t e = tt
+all-hold ((true else reply) ∷ cs) t e = (tt, all-hold cs (and-yes (not (eqb reply 0)) (telling cs) t .1) e)
+all-hold ((false else reply) ∷ cs) t e = absurd (nonzero reply (and-yes (not (eqb reply 0)) (telling cs) t .0) e)
+
 -- a check that holds is as none, and so is one that was made before
 held : (n : ℕ) (cs ds : List Check) → refusal (cs ++ (true else n) ∷ ds) ≡ refusal (cs ++ ds)
 held n [] ds = refl
@@ -38,10 +45,6 @@ twice true m n cs ds = held n cs ds
 twice false m n cs ds = refl
 
 -- what is checked where no masks are lent, and the input stands for them
-abbrev pub publishedChecks : List ℕ → List ℕ → List ℕ → ℕ → ℕ → List Check
-publishedChecks schedule input output offset form =
-    isSchedule schedule ∷ isInput input ∷ isOutput output ∷ isOffset offset ∷ isForm form ∷ []
-
 pub published-refusal : (w b out : List ℕ) (o form : ℕ) → refusal (checks w b out b o form) ≡ refusal (publishedChecks w b out o form)
 published-refusal w b out o form =
     ap (λ (r : ℕ). cond (eqb (length w) 240) r 2) (twice (eqb (length b) 16) 3 5 (isOutput out ∷ []) (isOffset o ∷ isForm form ∷ []))
@@ -54,11 +57,6 @@ pub record-refusal : (w b M : List ℕ) (o : ℕ) → refusal (checks w b b M o 
 record-refusal w b M o =
     ap (λ (r : ℕ). cond (eqb (length w) 240) r 2) (twice (eqb (length b) 16) 3 4 [] (isMaskTable M ∷ isOffset o ∷ []))
 
--- the first check held, and the others go on
-holding : (b : Bool) (reply : ℕ) (cs : List Check) → T (not (eqb reply 0)) → refusal ((b else reply) ∷ cs) ≡ 0 → T b × (refusal cs ≡ 0)
-holding true reply cs t e = (tt, e)
-holding false reply cs t e = absurd (nonzero reply t e)
-
 -- the lengths that an encryption has checked
 pub record Sizes (w b out M : List ℕ) : Type 0 where
   pub schedule : length w ≡ 240
@@ -67,19 +65,14 @@ pub record Sizes (w b out M : List ℕ) : Type 0 where
   pub masks : length M ≡ 16
 
 pub sizes : (w b out M : List ℕ) (o form : ℕ) → refusal (checks w b out M o form) ≡ 0 → Sizes w b out M
+unfolding AllHold telling
 sizes w b out M o form e =
-    let after-masks : List Check = isOffset o ∷ isForm form ∷ [] in
-    let after-output : List Check = isMaskTable M ∷ after-masks in
-    let after-input : List Check = isOutput out ∷ after-output in
-    let h1 = holding (eqb (length w) 240) 2 (isInput b ∷ after-input) tt e in
-    let h2 = holding (eqb (length b) 16) 3 after-input tt (h1 .1) in
-    let h3 = holding (eqb (length out) 16) 4 after-output tt (h2 .1) in
-    let h4 = holding (eqb (length M) 16) 5 after-masks tt (h3 .1) in
+    let h = all-hold (checks w b out M o form) tt e in
     record {
-      schedule = eqb→eq (length w) 240 (h1 .0);
-      input = eqb→eq (length b) 16 (h2 .0);
-      output = eqb→eq (length out) 16 (h3 .0);
-      masks = eqb→eq (length M) 16 (h4 .0);
+      schedule = eqb→eq (length w) 240 (h .0);
+      input = eqb→eq (length b) 16 (h .1 .0);
+      output = eqb→eq (length out) 16 (h .1 .1 .0);
+      masks = eqb→eq (length M) 16 (h .1 .1 .1 .0);
     }
 
 -- sixteen bytes are all of sixteen

@@ -1,6 +1,6 @@
 -- Tables that stand one after the other in a row, all of one size.
 -- Assumes nothing.
-use mathlib.Core.Path.{_≡_, sym, _∙_}
+use mathlib.Core.Path.{_≡_, refl, sym, _∙_}
 use mathlib.Core.List.{List, _++_}
 use Prim.Native.Nat.{ℕ, zero, suc, _+_, _-_, _*_, _%_, _≤_, _<_}
 use native.Mathlib.Nat.{mul-suc, mul-zero}
@@ -16,6 +16,12 @@ use Rattle.masked.specs.Mask.{inRow}
 row-more : (f : ℕ → List ℕ) (n : ℕ) → inRow f (n + 1) ≡ inRow f n ++ f n
 unfolding inRow
 row-more f n = rw add-one
+
+-- rows that are the same table by table
+pub row-same : (f g : ℕ → List ℕ) (n : ℕ) → ((k : ℕ) → k < n → f k ≡ g k) → inRow f n ≡ inRow g n
+unfolding inRow
+row-same f g zero h = refl
+row-same f g (suc n) h = λ i. row-same f g n (λ k lt. h k (omega arith)) i ++ h n (omega arith) i
 
 -- where a loop goes on, and where it has ended
 pub one-more : {n k : ℕ} → n < k → n + 1 ≤ k

@@ -3,6 +3,7 @@
 use Rattle.aes.proofs.Unique.{UniqueWriting, both}
 use Rattle.masked.proofs.encrypt.encrypt_masked.Reads as encrypt-masked
 use Rattle.masked.proofs.encrypt.encrypt_published.Reads as encrypt-published
+use Rattle.masked.proofs.many.encrypt_blocks.Reads as encrypt-blocks
 use Rattle.masked.proofs.record.record_masked.Reads as record-masked
 use Rattle.masked.proofs.sheet.read_sheet.Reads as read-sheet
 use Rattle.masked.proofs.sheet.write_sheet.Reads as write-sheet
@@ -12,6 +13,9 @@ encrypt-published-unique κs args e f x y p q = both x y _ _ _ p q
 
 pub encrypt-masked-unique : UniqueWriting encrypt-masked.Post (λ κs e. e .1 .1 .0 .now)
 encrypt-masked-unique κs args e f x y p q = both x y _ _ _ p q
+
+pub encrypt-blocks-unique : UniqueWriting encrypt-blocks.Post (λ κs e. e .1 .1 .0 .now)
+encrypt-blocks-unique κs args e f x y p q = both x y _ _ _ p q
 
 pub record-masked-unique : UniqueWriting record-masked.Post (λ κs e. e .1 .1 .1 .1 .0 .now)
 record-masked-unique κs args e f x y p q = both x y _ _ _ p q

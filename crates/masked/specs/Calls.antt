@@ -2,10 +2,12 @@
 -- Assumes nothing.
 use mathlib.Core.Bool.{cond}
 use mathlib.Core.List.{List, [], _∷_}
-use Prim.Native.Nat.{ℕ}
+use Prim.Native.Nat.{ℕ, _*_, _/_}
+use lib.ListN.{length, take, drop}
+use Rattle.aes.specs.State.{at}
 use Rattle.aes.specs.Record.{bytes}
-use Rattle.aes.specs.Reply.{Check, _else_, answer, isSchedule, isInput, isOutput, isMaskTable, isOffset, isForm, isRecord}
-use Rattle.masked.specs.Mask.{published}
+use Rattle.aes.specs.Reply.{Check, _else_, answer, isSchedule, isInput, isOutput, isMaskTable, isOffset, isForm, isRecord, areBlocks, isAsLong, hasOffsets, areOffsets}
+use Rattle.masked.specs.Mask.{published, inRow}
 use Rattle.masked.specs.Run.{maskedRecord, maskedCipher}
 
 -- the reply of checks alone
@@ -18,10 +20,28 @@ abbrev pub checks : List ℕ → List ℕ → List ℕ → List ℕ → ℕ → 
 checks schedule input output masks offset form =
     isSchedule schedule ∷ isInput input ∷ isOutput output ∷ isMaskTable masks ∷ isOffset offset ∷ isForm form ∷ []
 
+-- and one with the published masks
+abbrev pub publishedChecks : List ℕ → List ℕ → List ℕ → ℕ → ℕ → List Check
+publishedChecks schedule input output offset form =
+    isSchedule schedule ∷ isInput input ∷ isOutput output ∷ isOffset offset ∷ isForm form ∷ []
+
 abbrev pub encryptPublishedOf : List ℕ → List ℕ → List ℕ → ℕ → ℕ → ℕ × List ℕ
 encryptPublishedOf schedule input output offset form =
-    answer (isSchedule schedule ∷ isInput input ∷ isOutput output ∷ isOffset offset ∷ isForm form ∷ []) output
-    (maskedCipher 14 form published offset schedule input)
+    answer (publishedChecks schedule input output offset form) output (maskedCipher 14 form published offset schedule input)
+
+-- block k of many
+abbrev pub blockAt : ℕ → List ℕ → List ℕ
+blockAt k xs = take 16 (drop (16 * k) xs)
+
+abbrev pub blocksChecks : List ℕ → List ℕ → List ℕ → List ℕ → ℕ → List Check
+blocksChecks schedule input output offsets form =
+    isSchedule schedule ∷ areBlocks input ∷ isAsLong input output ∷ hasOffsets input offsets ∷ areOffsets offsets ∷ isForm form ∷ []
+
+-- block by block, what encrypt_published writes
+abbrev pub encryptBlocksOf : List ℕ → List ℕ → List ℕ → List ℕ → ℕ → ℕ × List ℕ
+encryptBlocksOf schedule input output offsets form =
+    answer (blocksChecks schedule input output offsets form) output
+    (inRow (λ k. encryptPublishedOf schedule (blockAt k input) (blockAt k output) (at offsets k) form .1) (length input / 16))
 
 abbrev pub encryptMaskedOf : List ℕ → List ℕ → List ℕ → List ℕ → ℕ → ℕ → ℕ × List ℕ
 encryptMaskedOf schedule input output masks offset form =

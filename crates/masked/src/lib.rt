@@ -3,6 +3,7 @@ mod blocks;
 mod boxes;
 mod encrypt;
 mod label;
+mod many;
 mod masks;
 mod record;
 mod run;
@@ -11,6 +12,7 @@ mod steps;
 
 pub use encrypt::encrypt_masked;
 pub use encrypt::encrypt_published;
+pub use many::encrypt_blocks;
 pub use record::record_masked;
 pub use sheet::read_sheet;
 pub use sheet::write_sheet;

@@ -7,15 +7,15 @@ use native.Mathlib.Omega.{arith}
 use native.Mathlib.Decide.{ℕ-discrete}
 use lib.Dec.{T, eqb, eqb→eq}
 use lib.Bits.{xor-shr, xor-mod, xor-block, xor-lt}
-use mir.Facts.{and-yes}
 use borrow.Author.Tests.{eq-eqb, ne-eqb}
-use Rattle.aes.specs.Byte.{_⊕_, bit, listed, table}
+use Rattle.aes.specs.Byte.{_⊕_, bit, listed, table, below}
 use Rattle.aes.specs.State.{at}
 use Rattle.aes.proofs.Xor.{mod-two, xor-cancel}
 use Rattle.aes.proofs.Listed.{table-same}
+use Rattle.aes.proofs.Below.{under}
 use Rattle.masked.specs.Mask.{published}
 use Rattle.theorems.specs.Balance.{pattern, count, times, different, Balanced, balanced}
-use Rattle.beside.specs.Fitness.{below, distinct}
+use Rattle.beside.specs.Fitness.{distinct}
 
 -- computed: the published masks are balanced, and no two of them are equal
 pub published-balanced-test : T (balanced (at published))
@@ -25,16 +25,6 @@ published-balanced-test = tt
 pub published-distinct-test : T (distinct (at published))
 unfolding published distinct below
 published-distinct-test = tt
-
--- the test says what it tests
-pub under : (p : ℕ → Bool) (n : ℕ) → T (below n p) → (k : ℕ) → k < n → T (p k)
-unfolding below
-under p zero h k lt = absurd (omega arith)
-under p (suc n) h k lt =
-    elim (ℕ-discrete k n) [
-      | yes e ↦ rw e (and-yes (p n) (below n p) h .0)
-      | no e ↦ under p n (and-yes (p n) (below n p) h .1) k (omega arith)
-    ]
 
 chosen : (d r : Bool) → T d → T (cond d r true) → T r
 chosen true r t h = h

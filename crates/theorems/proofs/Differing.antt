@@ -3,24 +3,19 @@
 use mathlib.Core.Path.{_≡_, refl, sym, ap}
 use mathlib.Core.Bool.{Bool, true, false, not, cond}
 use mathlib.Core.List.{List, [], _∷_}
-use Prim.Native.Nat.{ℕ, zero, suc, _<_}
+use Prim.Native.Nat.{ℕ, _<_}
 use native.Mathlib.Omega.{arith}
 use native.Mathlib.Decide.{decLt}
 use lib.Dec.{T, eqb, eqb→eq}
 use lib.ListN.{length}
 use mir.Facts.{eqb-no}
 use borrow.Author.Tests.{eq-eqb, ne-eqb}
+use Rattle.aes.specs.Byte.{below}
 use Rattle.aes.specs.State.{at, state}
 use Rattle.aes.specs.Reply.{_else_, answer}
+use Rattle.aes.proofs.Below.{below-all, under}
 use Rattle.masked.specs.Mask.{published}
-use Rattle.beside.specs.Fitness.{below, distinct, fit, fitnessOf}
-use Rattle.theorems.proofs.Balancing.{under}
-
--- what holds of each number holds of all
-below-all : (p : ℕ → Bool) (n : ℕ) → ((k : ℕ) → k < n → p k ≡ true) → below n p ≡ true
-unfolding below
-below-all p zero h = refl
-below-all p (suc n) h = rw (h n (omega arith)) (below-all p n (λ k lt. h k (omega arith)))
+use Rattle.beside.specs.Fitness.{distinct, fit, fitnessOf}
 
 -- any two different places hold different bytes
 abbrev pub AllDifferent : List ℕ → Type 0

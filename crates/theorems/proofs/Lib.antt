@@ -6,6 +6,7 @@ pub mod Cover
 pub mod AnyMasks
 pub mod Relation
 pub mod Result
+pub mod ManyBlocks
 pub mod Balancing
 pub mod RecordBytes
 pub mod RecordBalance

@@ -5,8 +5,7 @@ use mathlib.Core.Bool.{Bool, true, false, not, cond, _&&_}
 use mathlib.Core.List.{List, [], _∷_}
 use Prim.Native.Nat.{ℕ, _+_, _*_, _<_}
 use lib.Dec.{eqb, T}
-use Rattle.aes.specs.Byte.{bit, listed}
-use Rattle.beside.specs.Fitness.{below}
+use Rattle.aes.specs.Byte.{bit, listed, below}
 use Rattle.aes.specs.Record.{Point, block, keyed, boxed, shifted, mixed, compensated, closed, uncovered}
 
 -- the bits x, y and z of a byte, as a number below 8

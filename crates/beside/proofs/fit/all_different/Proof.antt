@@ -7,9 +7,10 @@ use borrow.Author.Needs.{needs}
 use borrow.Author.Tests.{not-true, not-false}
 use native.Mathlib.Omega.{arith}
 use lib.Dec.{eqb}
+use Rattle.aes.specs.Byte.{below}
 use Rattle.aes.specs.State.{at}
-use Rattle.beside.specs.Fitness.{below, distinct}
-use Rattle.beside.proofs.Below.{below-more, below-not}
+use Rattle.aes.proofs.Below.{below-more, below-not}
+use Rattle.beside.specs.Fitness.{distinct}
 use Rattle.beside.proofs.fit.all_different.Statement.{statement}
 use Rattle.beside.proofs.fit.all_different.Tie as tie
 

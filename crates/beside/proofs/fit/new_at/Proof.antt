@@ -7,9 +7,9 @@ use borrow.Author.Needs.{needs}
 use borrow.Author.Tests.{eq-eqb, ne-eqb}
 use native.Mathlib.Omega.{arith}
 use lib.Dec.{eqb}
+use Rattle.aes.specs.Byte.{below}
 use Rattle.aes.specs.State.{at}
-use Rattle.beside.specs.Fitness.{below}
-use Rattle.beside.proofs.Below.{below-more, below-not}
+use Rattle.aes.proofs.Below.{below-more, below-not}
 use Rattle.beside.proofs.fit.new_at.Statement.{statement}
 use Rattle.beside.proofs.fit.new_at.Tie as tie
 

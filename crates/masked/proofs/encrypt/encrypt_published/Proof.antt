@@ -8,8 +8,8 @@ use Rattle.aes.specs.Reply.{Check}
 use Rattle.aes.proofs.Replies.{telling}
 use Rattle.masked.specs.Mask.{published, maskedBoxes, allCompensations}
 use Rattle.masked.specs.Run.{maskedCipher}
-use Rattle.masked.specs.Calls.{refusal}
-use Rattle.masked.proofs.Checked.{refused, passed, publishedChecks, published-refusal, Sizes, sizes}
+use Rattle.masked.specs.Calls.{publishedChecks, refusal}
+use Rattle.masked.proofs.Checked.{refused, passed, published-refusal, Sizes, sizes}
 use Rattle.masked.proofs.encrypt.encrypt_published.Statement.{statement}
 use Rattle.masked.proofs.encrypt.encrypt_published.Tie as tie
 

@@ -1,0 +1,70 @@
+-- Many blocks in one call: what its checks tell of each block, and why each comes out as in a call of its own.
+-- Assumes nothing.
+use mathlib.Core.Path.{_≡_, refl, ap, sym, _∙_}
+use mathlib.Core.List.{List, _∷_}
+use Prim.Native.Nat.{ℕ, _-_, _*_, _/_, _%_, _<_}
+use native.Mathlib.Omega.{arith}
+use lib.Dec.{eqb, leb, eqb→eq}
+use lib.ListN.{length, drop, length-drop}
+use lib.Seq.{length-take-le}
+use mir.Facts.{and-yes}
+use Rattle.aes.specs.State.{at, addRoundKey}
+use Rattle.aes.specs.Record.{final, block, wholes, points, run, last}
+use Rattle.aes.proofs.Below.{under}
+use Rattle.aes.proofs.Replies.{AllHold, telling, holds-done}
+use Rattle.aes.proofs.Written.{run-append, last-append}
+use Rattle.masked.specs.Mask.{published, inRow}
+use Rattle.masked.specs.Run.{covered, maskedRecord, maskedCipher}
+use Rattle.masked.specs.Calls.{refusal, publishedChecks, blockAt, blocksChecks, encryptPublishedOf}
+use Rattle.masked.proofs.Row.{row-same}
+use Rattle.masked.proofs.Checked.{all-hold}
+
+-- a run ends in sixteen bytes
+pub masked-size : (nr form : ℕ) (M : List ℕ) (o : ℕ) (w b : List ℕ) → length (maskedCipher nr form M o w b) ≡ 16
+unfolding maskedCipher maskedRecord points run last covered addRoundKey
+masked-size nr form M o w b =
+    let f = covered form M o w in
+    let ps = block ∷ wholes (nr - 1) in
+    rw (run-append f ps (final (nr - 1)) b, last-append b (run f b ps) (run f (last b (run f b ps)) (final (nr - 1)))) refl
+
+block-size : (k n : ℕ) (xs : List ℕ) → length xs ≡ 16 * n → k < n → length (blockAt k xs) ≡ 16
+block-size k n xs l lt = length-take-le 16 (drop (16 * k) xs) (rw length-drop (omega arith))
+
+-- the row that the loop makes: block k, alone and in its place
+abbrev pub ciphers : List ℕ → List ℕ → List ℕ → ℕ → ℕ → List ℕ
+ciphers schedule input offsets form k = maskedCipher 14 form published (at offsets k) schedule (blockAt k input)
+
+-- what the checks tell of a call that they let pass
+pub record Passed (w b out offsets : List ℕ) (form : ℕ) : Type 0 where
+  pub schedule : length w ≡ 240
+  pub input : length b ≡ 16 * length offsets
+  pub output : length out ≡ 16 * length offsets
+  pub blocks : length b / 16 ≡ length offsets
+  pub alone : (k : ℕ) → k < length offsets → AllHold (publishedChecks w (blockAt k b) (blockAt k out) (at offsets k) form)
+
+pub passed-blocks : (w b out offsets : List ℕ) (form : ℕ) → refusal (blocksChecks w b out offsets form) ≡ 0 → Passed w b out offsets form
+unfolding AllHold telling
+passed-blocks w b out offsets form e =
+    let h = all-hold (blocksChecks w b out offsets form) tt e in
+    let whole : length b % 16 ≡ 0 = eqb→eq (length b % 16) 0 (and-yes (eqb (length b % 16) 0) (leb (length b) 4096) (h .1 .0) .0) in
+    let long : length out ≡ length b = eqb→eq (length out) (length b) (h .1 .1 .0) in
+    let n : length offsets ≡ length b / 16 = eqb→eq (length offsets) (length b / 16) (h .1 .1 .1 .0) in
+    let lb : length b ≡ 16 * length offsets = omega (arith, whole, n) in
+    let lo : length out ≡ 16 * length offsets = long ∙ lb in
+    record {
+      schedule = eqb→eq (length w) 240 (h .0);
+      input = lb;
+      output = lo;
+      blocks = sym n;
+      alone = λ k lt.
+          let low = under (λ j. leb (at offsets j) 15) (length offsets) (h .1 .1 .1 .1 .0) k lt in
+          (h .0, (rw (block-size k (length offsets) b lb lt) tt, (rw (block-size k (length offsets) out lo lt) tt, (low, h .1 .1 .1 .1 .1))));
+    }
+
+-- what the loop makes is what single calls do
+pub as-single : {w b out offsets : List ℕ} {form : ℕ} → Passed w b out offsets form
+    → inRow (ciphers w b offsets form) (length offsets)
+    ≡ inRow (λ k. encryptPublishedOf w (blockAt k b) (blockAt k out) (at offsets k) form .1) (length b / 16)
+as-single {w} {b} {out} {offsets} {form} p =
+    rw (p .blocks)
+    (row-same _ _ (length offsets) (λ k lt. sym (ap (λ (r : ℕ × List ℕ). r .1) (holds-done (blockAt k out) _ _ (p .alone k lt)))))
