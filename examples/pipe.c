@@ -1,6 +1,7 @@
 /*
  * A pipe's key is one AES-256 block, made twice: at the rack by the plain engine, and in the module by the masked one, at an
- * offset from 0 to 15. Here both make it from the key and the block of FIPS 197, C.3, and must come to the ciphertext there.
+ * offset from 0 to 15. Here both make it from the key and the block of FIPS 197, C.3, and must come to the ciphertext there. At
+ * session change the keys of all pipes are made in one call.
  *
  *     cc pipe.c $(pkg-config --cflags --libs slipgrease) -o pipe && ./pipe
  */
@@ -63,6 +64,26 @@ static int same(const uint8_t *a, const uint8_t *b)
     return memcmp(a, b, SLIPGREASE_BLOCK_BYTES) == 0;
 }
 
+/* The module makes the keys of seven pipes in one call, each at an offset of its own. A block is a pipe's number and zeros. */
+static void session_change(const uint8_t *schedule)
+{
+    enum { PIPES = 7 };
+    static const uint8_t offsets[PIPES] = {3, 15, 0, 8, 3, 11, 6};
+    uint8_t blocks[PIPES * SLIPGREASE_BLOCK_BYTES] = {0}, keys[sizeof blocks] = {0};
+    for (size_t pipe = 0; pipe < PIPES; pipe++)
+        blocks[pipe * SLIPGREASE_BLOCK_BYTES] = (uint8_t)pipe;
+    uint8_t reply = slipgrease_encrypt_blocks(
+        schedule, SLIPGREASE_SCHEDULE_BYTES, blocks, sizeof blocks, keys, sizeof keys, offsets, sizeof offsets, 0);
+    must_be_done(reply, "encrypt_blocks");
+    for (size_t at = 0; at < sizeof blocks; at += SLIPGREASE_BLOCK_BYTES) {
+        uint8_t rack[SLIPGREASE_BLOCK_BYTES];
+        reply = slipgrease_encrypt(schedule, SLIPGREASE_SCHEDULE_BYTES, blocks + at, sizeof rack, rack, sizeof rack);
+        must_be_done(reply, "encrypt");
+        must(same(keys + at, rack), "the module makes the rack's key of every pipe");
+    }
+    printf("%-21s%d keys in one call, each the rack's\n", "session change", PIPES);
+}
+
 int main(void)
 {
     uint8_t key[SLIPGREASE_KEY_BYTES], schedule[SLIPGREASE_SCHEDULE_BYTES], rack[SLIPGREASE_BLOCK_BYTES];
@@ -109,5 +130,6 @@ int main(void)
         early[i] ^= masks[(offset + 14 + i) % 16];
     must(same(early, rack), "a block of form 1, uncovered, is the key of the rack");
     print_block("form 1, uncovered", early);
+    session_change(schedule);
     return EXIT_SUCCESS;
 }

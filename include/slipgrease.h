@@ -19,9 +19,9 @@
  *   Nothing else is asked. Every length, alignment, content and number is allowed, and has its answer.
  *
  * Wrong lengths and null pointers
- *   A length that is not the one named below is refused, and not a byte of that buffer is touched. No call takes length 0, so
- *   a null pointer of length 0 is refused like any other wrong length. (That a null pointer does no harm is tested on the
- *   compiled code; the proofs speak of buffers that are there.)
+ *   A length that is not the one named below is refused, and not a byte of that buffer is touched. Length 0 is taken by
+ *   slipgrease_encrypt_blocks alone, for no blocks at all, and else refused like any other wrong length; with a null pointer as
+ *   with another. (That a null pointer does no harm is tested on the compiled code; the proofs speak of buffers that are there.)
  *
  * What is assumed
  *   The Rattle compiler and prover, LLVM, the C compiler and linker, memcpy and memset of the C library, and the machine. The
@@ -51,10 +51,10 @@ extern "C" {
 #define SLIPGREASE_REPLY_DONE 0             /* done */
 #define SLIPGREASE_REPLY_KEY_LENGTH 1       /* the key is not 32 bytes */
 #define SLIPGREASE_REPLY_SCHEDULE_LENGTH 2  /* the schedule, or the buffer for it, is not 240 bytes */
-#define SLIPGREASE_REPLY_INPUT_LENGTH 3     /* the input block is not 16 bytes */
-#define SLIPGREASE_REPLY_OUTPUT_LENGTH 4    /* the buffer for the output block is not 16 bytes */
+#define SLIPGREASE_REPLY_INPUT_LENGTH 3     /* the input is not 16 bytes; of many blocks, not 16 for each of 256 at most */
+#define SLIPGREASE_REPLY_OUTPUT_LENGTH 4    /* the buffer for the output is not 16 bytes; for many blocks, not as long as the input */
 #define SLIPGREASE_REPLY_MASKS_LENGTH 5     /* the mask table, or the buffer for it, is not 16 bytes */
-#define SLIPGREASE_REPLY_OFFSET_RANGE 6     /* the offset is above 15 */
+#define SLIPGREASE_REPLY_OFFSET_RANGE 6     /* an offset is above 15 */
 #define SLIPGREASE_REPLY_FORM_UNKNOWN 7     /* the form is neither 0 nor 1 */
 #define SLIPGREASE_REPLY_RECORD_LENGTH 8    /* the buffer for the record is not 1,136 bytes */
 #define SLIPGREASE_REPLY_NO_LOGARITHM 9     /* 00 has no logarithm */
@@ -62,6 +62,7 @@ extern "C" {
 #define SLIPGREASE_REPLY_SHEET_LENGTH 11    /* the sheet, or the buffer for it, is not 21 bytes */
 #define SLIPGREASE_REPLY_MARK_WRONG 12      /* the sheet does not begin with "MSK" */
 #define SLIPGREASE_REPLY_VERSION_UNKNOWN 13 /* the sheet's version is not 1 */
+#define SLIPGREASE_REPLY_OFFSETS_LENGTH 14  /* there is not one offset for each block */
 
 /* The lengths that the calls take. */
 #define SLIPGREASE_KEY_BYTES 32
@@ -70,6 +71,9 @@ extern "C" {
 #define SLIPGREASE_MASKS_BYTES 16
 #define SLIPGREASE_RECORD_BYTES 1136
 #define SLIPGREASE_SHEET_BYTES 21
+
+/* So many blocks are taken in one call. */
+#define SLIPGREASE_BLOCKS_MAX 256
 
 /* A record is so many states of a block's size. */
 #define SLIPGREASE_STATES 71
@@ -157,6 +161,20 @@ uint8_t slipgrease_encrypt_published(
     const uint8_t *input, size_t input_len,
     uint8_t *output_out, size_t output_len,
     uint8_t offset, uint8_t form);
+
+/*
+ * Encrypts up to SLIPGREASE_BLOCKS_MAX blocks under the published masks, by stored boxes: in turn, as slipgrease_encrypt_published
+ * would each of them. Block k is at byte 16 * k of input and output, and its offset is byte k of offsets. One offset that is wrong
+ * refuses them all. With no blocks it is done, and nothing is written.
+ * Reads schedule, 240 bytes, input, 16 bytes a block, and offsets, 1 byte a block. Writes output_out, 16 bytes a block.
+ * Refusals: 2 SCHEDULE_LENGTH, 3 INPUT_LENGTH, 4 OUTPUT_LENGTH, 14 OFFSETS_LENGTH, 6 OFFSET_RANGE, 7 FORM_UNKNOWN.
+ */
+uint8_t slipgrease_encrypt_blocks(
+    const uint8_t *schedule, size_t schedule_len,
+    const uint8_t *input, size_t input_len,
+    uint8_t *output_out, size_t output_len,
+    const uint8_t *offsets, size_t offsets_len,
+    uint8_t form);
 
 /*
  * Encrypts one block under any sixteen masks, fit or not; their boxes are worked out first.

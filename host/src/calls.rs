@@ -47,6 +47,18 @@ extern "C" {
         form: u8,
     ) -> u8;
 
+    fn slipgrease_encrypt_blocks(
+        schedule: *const u8,
+        schedule_len: usize,
+        input: *const u8,
+        input_len: usize,
+        output: *mut u8,
+        output_len: usize,
+        offsets: *const u8,
+        offsets_len: usize,
+        form: u8,
+    ) -> u8;
+
     fn slipgrease_encrypt_masked(
         schedule: *const u8,
         schedule_len: usize,
@@ -115,6 +127,22 @@ pub fn encrypt_published(schedule: &[u8], input: &[u8], output: &mut [u8], offse
             output.as_mut_ptr(),
             output.len(),
             offset,
+            form,
+        )
+    }
+}
+
+pub fn encrypt_blocks(schedule: &[u8], input: &[u8], output: &mut [u8], offsets: &[u8], form: u8) -> u8 {
+    unsafe {
+        slipgrease_encrypt_blocks(
+            schedule.as_ptr(),
+            schedule.len(),
+            input.as_ptr(),
+            input.len(),
+            output.as_mut_ptr(),
+            output.len(),
+            offsets.as_ptr(),
+            offsets.len(),
             form,
         )
     }

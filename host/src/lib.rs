@@ -1,4 +1,4 @@
-//! AES-256 for one block, plain and masked, by a library in which every call is proved to meet its promise.
+//! AES-256 block by block, plain and masked, by a library in which every call is proved to meet its promise.
 //!
 //! The library is `libslipgrease.a`, written in Rattle; this crate is its face for Rust. Whatever a call is lent, it ends, and
 //! gives the one answer that its promise names: wrong lengths, offsets and forms are refused, each with its own [`Refusal`], in a
@@ -44,6 +44,6 @@ pub use crate::record::{Point, Record, Step};
 pub use crate::refusal::{sort_reply, Fault, Refusal};
 pub use crate::schedule::{Block, Schedule};
 pub use crate::slices::{
-    decrypt, encrypt, encrypt_masked, encrypt_published, expand_key, fitness, inverse, logarithm, masked_inverse, multiply,
-    power, read_sheet, record_masked, record_plain, write_sheet,
+    decrypt, encrypt, encrypt_blocks, encrypt_masked, encrypt_published, expand_key, fitness, inverse, logarithm, masked_inverse,
+    multiply, power, read_sheet, record_masked, record_plain, write_sheet,
 };

@@ -21,13 +21,13 @@ pub enum Refusal {
     KeyLength = 1,
     /// The schedule is not 240 bytes long.
     ScheduleLength = 2,
-    /// The input block is not 16 bytes long.
+    /// The input is not 16 bytes long; of many blocks, not 16 for each of 256 at most.
     InputLength = 3,
-    /// The output block is not 16 bytes long.
+    /// The output is not 16 bytes long; of many blocks, not as long as the input.
     OutputLength = 4,
     /// The mask table is not 16 bytes long.
     MasksLength = 5,
-    /// The offset is above 15.
+    /// An offset is above 15.
     OffsetRange = 6,
     /// The form is neither 0 nor 1.
     FormUnknown = 7,
@@ -43,16 +43,18 @@ pub enum Refusal {
     MarkWrong = 12,
     /// The sheet's version is not 1.
     VersionUnknown = 13,
+    /// There is not one offset for each block.
+    OffsetsLength = 14,
 }
 
 /// The name and the meaning of each, in the order of their numbers.
-const REFUSALS: [(Refusal, &str, &str); 13] = [
+const REFUSALS: [(Refusal, &str, &str); 14] = [
     (Refusal::KeyLength, "KEY_LENGTH", "the key is not 32 bytes long"),
     (Refusal::ScheduleLength, "SCHEDULE_LENGTH", "the schedule is not 240 bytes long"),
-    (Refusal::InputLength, "INPUT_LENGTH", "the input block is not 16 bytes long"),
-    (Refusal::OutputLength, "OUTPUT_LENGTH", "the output block is not 16 bytes long"),
+    (Refusal::InputLength, "INPUT_LENGTH", "the input is not 16 bytes long; of many blocks, not 16 for each of 256 at most"),
+    (Refusal::OutputLength, "OUTPUT_LENGTH", "the output is not 16 bytes long; of many blocks, not as long as the input"),
     (Refusal::MasksLength, "MASKS_LENGTH", "the mask table is not 16 bytes long"),
-    (Refusal::OffsetRange, "OFFSET_RANGE", "the offset is above 15"),
+    (Refusal::OffsetRange, "OFFSET_RANGE", "an offset is above 15"),
     (Refusal::FormUnknown, "FORM_UNKNOWN", "the form is neither 0 nor 1"),
     (Refusal::RecordLength, "RECORD_LENGTH", "the record is not 1,136 bytes long"),
     (Refusal::NoLogarithm, "NO_LOGARITHM", "00 has no logarithm"),
@@ -60,6 +62,7 @@ const REFUSALS: [(Refusal, &str, &str); 13] = [
     (Refusal::SheetLength, "SHEET_LENGTH", "the sheet is not 21 bytes long"),
     (Refusal::MarkWrong, "MARK_WRONG", "the sheet does not begin with its mark, 4d 53 4b"),
     (Refusal::VersionUnknown, "VERSION_UNKNOWN", "the sheet's version is not 1"),
+    (Refusal::OffsetsLength, "OFFSETS_LENGTH", "there is not one offset for each block"),
 ];
 
 impl Refusal {
@@ -74,7 +77,7 @@ impl Refusal {
         REFUSALS.iter().map(|row| row.0).find(|refusal| refusal.number() == number)
     }
 
-    /// The reply number, 1 to 13.
+    /// The reply number, 1 to 14.
     pub fn number(self) -> u8 {
         self as u8
     }

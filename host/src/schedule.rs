@@ -70,6 +70,29 @@ impl Schedule {
         output
     }
 
+    /// The same of many blocks, each at an offset of its own: so many calls as there are 256 blocks.
+    ///
+    /// ```
+    /// use slipgrease::{Form, Offset, Schedule};
+    ///
+    /// let schedule = Schedule::expand(&[1; 32]);
+    /// let blocks: Vec<_> = Offset::all().map(|offset| ([offset.number(); 16], offset)).collect();
+    /// let made = schedule.encrypt_blocks(&blocks, Form::Standard);
+    /// assert_eq!(made[7], schedule.encrypt(&[7; 16]));
+    /// ```
+    pub fn encrypt_blocks(&self, blocks: &[(Block, Offset)], form: Form) -> Vec<Block> {
+        blocks.chunks(256).flat_map(|blocks| self.encrypt_at_once(blocks, form)).collect()
+    }
+
+    /// Up to 256 blocks.
+    fn encrypt_at_once(&self, blocks: &[(Block, Offset)], form: Form) -> Vec<Block> {
+        let input: Vec<u8> = blocks.iter().flat_map(|(block, _)| *block).collect();
+        let offsets: Vec<u8> = blocks.iter().map(|(_, offset)| offset.number()).collect();
+        let mut output = vec![0; input.len()];
+        slices::encrypt_blocks(&self.0, &input, &mut output, &offsets, form as u8).expect(FITS);
+        output.chunks_exact(16).map(|block| block.try_into().expect(FITS)).collect()
+    }
+
     /// The block that a masked run with any sixteen masks ends with.
     pub fn encrypt_masked(&self, block: &Block, masks: &Masks, offset: Offset, form: Form) -> Block {
         let mut output = [0; 16];
@@ -108,5 +131,26 @@ impl TryFrom<&[u8]> for Schedule {
 impl fmt::Debug for Schedule {
     fn fmt(&self, f: &mut fmt::Formatter) -> fmt::Result {
         f.write_str("Schedule(..)")
+    }
+}
+
+#[cfg(test)]
+mod tests {
+    use super::{Block, Schedule};
+    use crate::masks::{Form, Offset};
+
+    /// Around the 256 blocks of a call, each block is what a call of its own gives.
+    #[test]
+    fn many_blocks_are_as_single_ones() {
+        let schedule = Schedule::expand(&[7; 32]);
+        for count in [0, 1, 255, 256, 257, 600] {
+            let block = |i: usize| -> Block { std::array::from_fn(|k| (i * 31 + k) as u8) };
+            let offset = |i: usize| Offset::new((i * 7 % 16) as u8).unwrap();
+            let blocks: Vec<(Block, Offset)> = (0..count).map(|i| (block(i), offset(i))).collect();
+            for form in [Form::Standard, Form::Printed] {
+                let single = blocks.iter().map(|(block, offset)| schedule.encrypt_published(block, *offset, form));
+                assert_eq!(schedule.encrypt_blocks(&blocks, form), single.collect::<Vec<Block>>());
+            }
+        }
     }
 }

@@ -77,7 +77,29 @@ pub fn encrypt_published(schedule: &[u8], input: &[u8], output: &mut [u8], offse
     Refusal::check(calls::encrypt_published(schedule, input, output, offset, form))
 }
 
-/// The same with any sixteen masks.
+/// Writes for each of up to 256 blocks what [`encrypt_published`] would, at an offset of its own.
+///
+/// Refused, in this order: schedule not 240 bytes, input not 16 for each of 256 blocks at most, output not as long as the input, not
+/// one offset for each block, any offset above 15, form not 0 or 1. A call without blocks is done.
+///
+/// ```
+/// use slipgrease::Refusal;
+///
+/// let (mut plain, mut masked) = ([0; 16], [0; 48]);
+/// slipgrease::encrypt(&[3; 240], &[5; 16], &mut plain)?;
+/// slipgrease::encrypt_blocks(&[3; 240], &[5; 48], &mut masked, &[11, 0, 15], 0)?;
+/// assert_eq!(masked[..], plain.repeat(3));
+///
+/// let mut untouched = [0x55; 48];
+/// let refused = slipgrease::encrypt_blocks(&[3; 240], &[5; 48], &mut untouched, &[11, 0, 16], 0);
+/// assert_eq!((refused, untouched), (Err(Refusal::OffsetRange), [0x55; 48]));
+/// # Ok::<(), slipgrease::Refusal>(())
+/// ```
+pub fn encrypt_blocks(schedule: &[u8], input: &[u8], output: &mut [u8], offsets: &[u8], form: u8) -> Result<(), Refusal> {
+    Refusal::check(calls::encrypt_blocks(schedule, input, output, offsets, form))
+}
+
+/// What [`encrypt_published`] writes, with any sixteen masks.
 ///
 /// Refused, in this order: schedule not 240 bytes, input not 16, output not 16, masks not 16, offset above 15, form not 0 or 1.
 ///

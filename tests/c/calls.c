@@ -51,11 +51,13 @@ static void block(const char *call, const uint8_t *given, const char *expected)
     }
 }
 
-/* FIPS 197, C.3, and the published masks. At offset 5 byte i of the block is covered by M(5 + i), of form 1 by M(5 + 14 + i). */
+/* FIPS 197, C.3, and the published masks. At offset o byte i of the block is covered by M(o + i), of form 1 by M(o + 14 + i); o is
+   5 where nothing else is said. */
 static const char plaintext[] = "00112233445566778899aabbccddeeff";
 static const char ciphertext[] = "8ea2b7ca516745bfeafc49904b496089";
 static const char covered[] = "5c7448a6def6cab1416955bbc3ebd7ac";
 static const char form_1[] = "b7f1ebaf3bf2df1c463a8060b4496fbf";
+static const char form_1_at_7[] = "d2c7dd5fcbc4e979230cb690447f59da";
 static const uint8_t masks[SLIPGREASE_MASKS_BYTES] = {
     0x00, 0x0f, 0x36, 0x39, 0x53, 0x5c, 0x65, 0x6a, 0x95, 0x9a, 0xa3, 0xac, 0xc6, 0xc9, 0xf0, 0xff};
 
@@ -97,6 +99,28 @@ static void rack(void)
     CALL(record_plain, SLIPGREASE_REPLY_RECORD_LENGTH, LENT(w), LENT(in), NONE);
 }
 
+/* The block of C.3 twice, in form 1 at offsets 5 and 7, so that the two blocks differ. */
+static void many(void)
+{
+    static const uint8_t offsets[] = {5, 7, 16};
+    uint8_t two[2 * SLIPGREASE_BLOCK_BYTES], made[2 * SLIPGREASE_BLOCK_BYTES];
+    memcpy(two, in, sizeof in);
+    memcpy(two + sizeof in, in, sizeof in);
+    CALL(encrypt_blocks, SLIPGREASE_REPLY_DONE, LENT(w), LENT(two), LENT(made), offsets, 2, 1);
+    block("encrypt_blocks", made, form_1);
+    block("encrypt_blocks", made + sizeof in, form_1_at_7);
+    CALL(encrypt_blocks, SLIPGREASE_REPLY_DONE, LENT(w), NONE, NONE, NONE, 0);
+    CALL(encrypt_blocks, SLIPGREASE_REPLY_FORM_UNKNOWN, LENT(w), NONE, NONE, NONE, 2);
+    CALL(encrypt_blocks, SLIPGREASE_REPLY_SCHEDULE_LENGTH, NONE, NONE, NONE, NONE, 0);
+    CALL(encrypt_blocks, SLIPGREASE_REPLY_INPUT_LENGTH, LENT(w), two, 17, LENT(made), offsets, 2, 0);
+    CALL(encrypt_blocks, SLIPGREASE_REPLY_OUTPUT_LENGTH, LENT(w), NONE, LENT(made), offsets, 2, 0);
+    CALL(encrypt_blocks, SLIPGREASE_REPLY_OUTPUT_LENGTH, LENT(w), LENT(two), NONE, offsets, 2, 0);
+    CALL(encrypt_blocks, SLIPGREASE_REPLY_OFFSETS_LENGTH, LENT(w), LENT(two), LENT(made), NONE, 0);
+    CALL(encrypt_blocks, SLIPGREASE_REPLY_OFFSETS_LENGTH, LENT(w), LENT(two), LENT(made), LENT(offsets), 0);
+    CALL(encrypt_blocks, SLIPGREASE_REPLY_OFFSET_RANGE, LENT(w), LENT(two), LENT(made), offsets + 1, 2, 0);
+    block("encrypt_blocks", made, form_1);
+}
+
 static void module(void)
 {
     CALL(encrypt_published, SLIPGREASE_REPLY_DONE, LENT(w), LENT(in), LENT(out), 5, 0);
@@ -108,6 +132,8 @@ static void module(void)
     CALL(encrypt_published, SLIPGREASE_REPLY_OUTPUT_LENGTH, LENT(w), LENT(in), NONE, 5, 0);
     CALL(encrypt_published, SLIPGREASE_REPLY_OFFSET_RANGE, LENT(w), LENT(in), LENT(out), 16, 0);
     CALL(encrypt_published, SLIPGREASE_REPLY_FORM_UNKNOWN, LENT(w), LENT(in), LENT(out), 5, 2);
+
+    many();
 
     CALL(encrypt_masked, SLIPGREASE_REPLY_DONE, LENT(w), LENT(in), LENT(out), LENT(masks), 5, 0);
     block("encrypt_masked", out, ciphertext);

@@ -9,21 +9,22 @@ use crate::random::Random;
 const LENGTHS: [usize; 5] = [16, 21, 32, 240, 1136];
 
 /// Broken has the reply numbers whose causes are wanted.
-pub fn draw(random: &mut Random, boxes: &Boxes, broken: &[u8]) -> Lent {
+pub fn draw(random: &mut Random, boxes: &Boxes, broken: &[u8], many: bool) -> Lent {
     let wants = |number: u8| broken.contains(&number);
     let key = bytes(random, 32, wants(1));
     let schedule = schedule(random, boxes, wants(2));
-    let input = bytes(random, 16, wants(3));
-    let output = bytes(random, 16, wants(4));
+    let input = if many { blocks(random, wants(3), wants(6)) } else { bytes(random, 16, wants(3)) };
+    let output = bytes(random, if many { input.len() } else { 16 }, wants(4));
+    let offsets = offsets(random, input.len() / 16, wants(14), wants(6));
     let masks = if wants(5) { bytes(random, 16, true) } else { masks(random).to_vec() };
     let states = bytes(random, 1136, wants(8));
     let sheet = sheet(random, wants(11), wants(12), wants(13));
     let blank = random.bytes(sheet.len());
-    let [key, schedule, input, output, masks, states, sheet, blank] =
-        [key, schedule, input, output, masks, states, sheet, blank].map(|body| Buffer::new(random, &body));
+    let [key, schedule, input, output, masks, states, sheet, blank, offsets] =
+        [key, schedule, input, output, masks, states, sheet, blank, offsets].map(|body| Buffer::new(random, &body));
     let offset = if wants(6) { 16 + random.below(240) } else { random.below(16) } as u8;
     let form = if wants(7) { 2 + random.below(254) } else { random.below(2) } as u8;
-    Lent { key, schedule, input, output, masks, states, sheet, blank, offset, form }
+    Lent { key, schedule, input, output, masks, states, sheet, blank, offsets, offset, form }
 }
 
 /// Empty, one off, twice as long, a length that another buffer has, or any.
@@ -31,7 +32,7 @@ fn wrong_length(random: &mut Random, right: usize) -> usize {
     loop {
         let length = match random.below(6) {
             0 => 0,
-            1 => right - 1,
+            1 => right.saturating_sub(1),
             2 => right + 1,
             3 => 2 * right,
             4 => LENGTHS[random.below(LENGTHS.len())],
@@ -43,9 +44,13 @@ fn wrong_length(random: &mut Random, right: usize) -> usize {
     }
 }
 
-/// All 00, all ff, one bit, or random.
 fn bytes(random: &mut Random, right: usize, wrong: bool) -> Vec<u8> {
     let length = if wrong { wrong_length(random, right) } else { right };
+    content(random, length)
+}
+
+/// All 00, all ff, one bit, or random.
+fn content(random: &mut Random, length: usize) -> Vec<u8> {
     match random.below(10) {
         0 => vec![0x00; length],
         1 => vec![0xff; length],
@@ -56,6 +61,31 @@ fn bytes(random: &mut Random, right: usize, wrong: bool) -> Vec<u8> {
         }
         _ => random.bytes(length),
     }
+}
+
+/// Mostly a few blocks, at times none or all that are taken; wrong, not whole ones, or too many.
+fn blocks(random: &mut Random, wrong: bool, at_least_one: bool) -> Vec<u8> {
+    let length = match (wrong, random.below(128)) {
+        (true, 0..=31) => [1, 15, 17, 4095, 4097, 4112][random.below(6)],
+        (true, 32..=63) => 16 * (257 + random.below(8)),
+        (true, _) => 16 * random.below(8) + 1 + random.below(15),
+        (false, 0) => 16 * 256,
+        (false, 1) => 16 * (1 + random.below(256)),
+        (false, 2..=15) if !at_least_one => 0,
+        _ => 16 * (1 + random.below(6)),
+    };
+    content(random, length)
+}
+
+/// An offset for each block; wrong, one of them above 15, be it the last alone.
+fn offsets(random: &mut Random, blocks: usize, length: bool, range: bool) -> Vec<u8> {
+    let length = if length { wrong_length(random, blocks) } else { blocks };
+    let mut offsets: Vec<u8> = (0..length).map(|_| random.below(16) as u8).collect();
+    if range && length > 0 {
+        let places = [0, length - 1, random.below(length)];
+        offsets[places[random.below(3)]] = if random.below(2) == 0 { 16 } else { 16 + random.below(240) as u8 };
+    }
+    offsets
 }
 
 /// That of a key, or any bytes.

@@ -5,7 +5,7 @@ use crate::cases::draw;
 use crate::cipher::Boxes;
 use crate::lent::Lent;
 use crate::random::Random;
-use crate::replies::reply;
+use crate::replies::{reply, takes_many};
 use crate::report::Tally;
 use crate::table::Call;
 
@@ -17,7 +17,7 @@ pub fn compare(call: &Call, boxes: &Boxes, random: &mut Random, cases: usize, sp
     let mut tally = Tally::default();
     for case in 0..cases {
         let broken = broken(call, random, case);
-        let mut lent = draw(random, boxes, &broken);
+        let mut lent = draw(random, boxes, &broken, takes_many(call.refusals));
         let mut expected = lent.clone();
         let mut answer = answer(call, boxes, &mut expected);
         assert_eq!(answer.number, broken.first().copied().unwrap_or(0), "drawn as asked");

@@ -13,7 +13,7 @@ struct Edge {
 /// Prints each edge, and counts those that are not where they should be. A spoiled expectation must be found to differ.
 pub fn compare(spoiled: bool) -> Tally {
     let mut tally = Tally::default();
-    let edges = [lengths_of_keys(), huge(), offsets_and_forms(), powers(), sheets(), zero_masks()];
+    let edges = [lengths_of_keys(), huge(), offsets_and_forms(), many_blocks(), powers(), sheets(), zero_masks()];
     for edge in edges.into_iter().flatten() {
         let expected = edge.expected ^ u16::from(spoiled);
         let same = edge.given == expected;
@@ -60,6 +60,31 @@ fn offsets_and_forms() -> Vec<Edge> {
         let recorded = calls::record_masked(&w, &block, &masks, offset, &mut [0; 1136]);
         edges.push(edge(format!("reply to offset {offset}, recorded"), recorded, expected));
     }
+    edges
+}
+
+fn many_blocks() -> Vec<Edge> {
+    let w = [0; 240];
+    let called = |input: usize, output: usize, offsets: &[u8], form: u8| {
+        calls::encrypt_blocks(&w, &vec![0; input], &mut vec![0; output], offsets, form)
+    };
+    let mut edges = Vec::new();
+    for (length, expected) in [(0, 0), (15, 3), (16, 0), (17, 3), (4096, 0), (4112, 3)] {
+        let reply = called(length, length, &vec![0; length / 16], 0);
+        edges.push(edge(format!("reply to many blocks, {length} bytes"), reply, expected));
+    }
+    let (mut kept, mut last) = ([1; 4096], [15; 256]);
+    last[255] = 16;
+    edges.extend([
+        edge("reply to no blocks and room for one", called(0, 16, &[], 0), 4),
+        edge("reply to no blocks and an offset", called(0, 0, &[0], 0), 14),
+        edge("reply to 256 blocks and 255 offsets", called(4096, 4096, &last[..255], 0), 14),
+        edge("reply to no blocks in form 2", called(0, 0, &[], 2), 7),
+        edge("reply to no blocks and a short schedule", calls::encrypt_blocks(&w[1..], &[], &mut [], &[], 0), 2),
+        edge("reply to 256 blocks, the last offset 16", calls::encrypt_blocks(&w, &[0; 4096], &mut kept, &last, 0), 6),
+        edge("bytes that are written then", difference(&kept, &[1; 4096]), 0),
+        edge("fault that reply 14 is, the caller's", calls::sort_reply(14), 1),
+    ]);
     edges
 }
 

@@ -53,12 +53,14 @@ pub struct Lent {
     /// A sheet to read, and a buffer of the same length to write one to.
     pub sheet: Buffer,
     pub blank: Buffer,
+    /// For many blocks, the offset of each.
+    pub offsets: Buffer,
     pub offset: u8,
     pub form: u8,
 }
 
 impl Lent {
-    fn buffers(&self) -> [(&'static str, &Buffer); 8] {
+    fn buffers(&self) -> [(&'static str, &Buffer); 9] {
         [
             ("key", &self.key),
             ("schedule", &self.schedule),
@@ -68,6 +70,7 @@ impl Lent {
             ("states", &self.states),
             ("sheet", &self.sheet),
             ("blank", &self.blank),
+            ("offsets", &self.offsets),
         ]
     }
 
@@ -88,6 +91,7 @@ impl Lent {
             &mut self.states,
             &mut self.sheet,
             &mut self.blank,
+            &mut self.offsets,
         ];
         let which = random.below(buffers.len());
         buffers[which].spoil(random);

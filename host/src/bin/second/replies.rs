@@ -4,15 +4,25 @@ use crate::lent::Lent;
 
 /// The first number of a call's order whose cause is there, and 0 where none is.
 pub fn reply(order: &[u8], lent: &Lent) -> u8 {
-    order.iter().copied().find(|&number| met(number, lent)).unwrap_or(0)
+    order.iter().copied().find(|&number| met(number, lent, takes_many(order))).unwrap_or(0)
 }
 
-fn met(number: u8, lent: &Lent) -> bool {
+/// Whether a call with these refusals takes many blocks: it alone can miss an offset.
+pub fn takes_many(order: &[u8]) -> bool {
+    order.contains(&14)
+}
+
+fn met(number: u8, lent: &Lent, many: bool) -> bool {
     let sheet = lent.sheet.lent();
+    let (input, offsets) = (lent.input.lent(), lent.offsets.lent());
     match number {
+        3 if many => input.len() % 16 != 0 || input.len() > 256 * 16,
+        4 if many => lent.output.lent().len() != input.len(),
+        6 if many => offsets.iter().any(|&offset| offset > 15),
+        14 => offsets.len() != input.len() / 16,
         1 => lent.key.lent().len() != 32,
         2 => lent.schedule.lent().len() != 240,
-        3 => lent.input.lent().len() != 16,
+        3 => input.len() != 16,
         4 => lent.output.lent().len() != 16,
         5 => lent.masks.lent().len() != 16,
         6 => lent.offset > 15,

@@ -53,6 +53,17 @@ fn library_published(l: &mut Lent) -> Answer {
     number(calls::encrypt_published(l.schedule.lent(), l.input.lent(), l.output.lent_mut(), l.offset, l.form))
 }
 
+/// For each block of many what a run over it alone gives, one behind the other.
+fn each(lent: &Lent, one: impl Fn(&Masking, &State) -> State) -> Vec<u8> {
+    let blocks = lent.input.lent().chunks_exact(16).map(|block| block.try_into().expect("sixteen bytes"));
+    let masking = |&offset: &u8| Masking { masks: PUBLISHED, offset: offset.into(), form: lent.form };
+    blocks.zip(lent.offsets.lent().iter().map(masking)).flat_map(|(block, masking)| one(&masking, &block)).collect()
+}
+
+fn library_many(l: &mut Lent) -> Answer {
+    number(calls::encrypt_blocks(l.schedule.lent(), l.input.lent(), l.output.lent_mut(), l.offsets.lent(), l.form))
+}
+
 fn library_masked(l: &mut Lent) -> Answer {
     let masks = l.masks.lent();
     number(calls::encrypt_masked(l.schedule.lent(), l.input.lent(), l.output.lent_mut(), masks, l.offset, l.form))
@@ -113,6 +124,26 @@ pub const CALLS: &[Call] = &[
         reference: |b, l| {
             let block = covered_cipher(b, l, &published(l));
             write(&mut l.output, &block)
+        },
+    },
+    Call {
+        name: "encrypt_blocks",
+        method: "masked run of each block",
+        refusals: &[2, 3, 4, 14, 6, 7],
+        library: library_many,
+        reference: |b, l| {
+            let blocks = each(l, |masking, block| masking.run(b, l.schedule.lent(), block)[70]);
+            write(&mut l.output, &blocks)
+        },
+    },
+    Call {
+        name: "encrypt_blocks",
+        method: "covered CIPHER of each block",
+        refusals: &[2, 3, 4, 14, 6, 7],
+        library: library_many,
+        reference: |b, l| {
+            let blocks = each(l, |masking, block| add(&encrypt(b, l.schedule.lent(), block), &masking.cover_of_result()));
+            write(&mut l.output, &blocks)
         },
     },
     Call {

@@ -1,4 +1,4 @@
-//! The commands that make one block, and the key schedule.
+//! The commands that make blocks, and the key schedule.
 
 use crate::fault::Fault;
 use crate::hex::digits;
@@ -101,4 +101,34 @@ pub fn mask(words: &mut Words, out: &mut dyn Write) -> Result<(), Fault> {
     made.map_err(|refusal| explained(refusal, &keyed, &block, Some(&masking)))?;
     writeln!(out, "{}", digits(&output))?;
     Ok(())
+}
+
+/// The module's encryption of many blocks in one call, a block to a line.
+pub fn blocks(words: &mut Words, out: &mut dyn Write) -> Result<(), Fault> {
+    let offsets = words.bytes_of("offsets")?;
+    let form = words.number_of("form")?;
+    let keyed = Keyed::read(words)?;
+    let blocks = words.all_bytes("blocks")?;
+    let offsets = offsets
+        .ok_or_else(|| Fault::caller("--offsets is missing: a byte for each block, 00 to 0f, that is the caller's to choose"))?;
+    let mut output = vec![0; blocks.bytes.len()];
+    let number = form.as_ref().map_or(0, |form| form.value);
+    let made = slipgrease::encrypt_blocks(&keyed.bytes, &blocks.bytes, &mut output, &offsets.bytes, number);
+    made.map_err(|refusal| match (refusal, &form) {
+        (Refusal::OffsetsLength, _) => offsets.refused(refusal),
+        (Refusal::OffsetRange, _) => wrong_offset(&offsets),
+        (Refusal::FormUnknown, Some(form)) => form.refused(refusal),
+        _ => explained(refusal, &keyed, &blocks, None),
+    })?;
+    for block in output.chunks(16) {
+        writeln!(out, "{}", digits(block))?;
+    }
+    Ok(())
+}
+
+/// Names the first offset that is above 15.
+fn wrong_offset(offsets: &Given) -> Fault {
+    let block = offsets.bytes.iter().position(|&offset| offset > 15).expect("one is above 15");
+    let seen = format!("{}, {}: {:02x} for block {block}", offsets.what, offsets.place, offsets.bytes[block]);
+    Fault::refused(Refusal::OffsetRange, &seen)
 }

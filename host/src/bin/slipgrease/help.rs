@@ -53,6 +53,20 @@ $ slipgrease mask --offset 3 000102030405060708090a0b0c0d0e0f1011121314151617181
 8ea2b7ca516745bfeafc49904b496089",
     },
     Help {
+        name: "blocks",
+        usage: "blocks --offsets OFFSETS [--form F] KEY BLOCK ..",
+        summary: "up to 256 blocks encrypted by the module's engine in one call",
+        text: "\
+Prints for each block what mask prints for it, a block to a line. OFFSETS has a byte for each of them, 00 to 0f. If any is wrong,
+no block is encrypted. Blocks that are not given as arguments are all words of standard input. --schedule SCHEDULE can stand for
+the key.",
+        example: "\
+$ slipgrease blocks --offsets 030f 603deb1015ca71be2b73aef0857d77811f352c073b6108d72d9810a30914dff4 \
+6bc1bee22e409f96e93d7e117393172a ae2d8a571e03ac9c9eb76fac45af8e51
+f3eed1bdb5d2a03c064b5a7e3db181f8
+591ccb10d410ed26dc5ba74a31362870",
+    },
+    Help {
         name: "record",
         usage: "record [--offset O] [--masks MASKS] [--svg FILE] KEY BLOCK",
         summary: "the 71 states of a run, or of two side by side",
@@ -126,7 +140,7 @@ command is done, 1 for a caller fault and 2 for a data fault; a refusal is told 
 pub fn all() -> String {
     let lines: Vec<String> = HELPS.iter().map(|help| format!("  {:<10}{}\n", help.name, help.summary)).collect();
     format!(
-        "slipgrease COMMAND ..: AES-256 for one block, plain and masked, by a proved library\n\n{}\n\
+        "slipgrease COMMAND ..: AES-256 block by block, plain and masked, by a proved library\n\n{}\n\
          slipgrease COMMAND --help says more, with an example.\n\n{STATUS}",
         lines.concat()
     )

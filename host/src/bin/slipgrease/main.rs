@@ -1,6 +1,6 @@
 //! The desk tool: the library's calls for someone at the rack desk with a key, a block and a question.
 //!
-//! It takes every offset from its caller, draws none, and does one block a command. Its status is 0 where a command is done, and
+//! It takes every offset from its caller and draws none. Its status is 0 where a command is done, and
 //! otherwise what the library's own sorter says of the refusal: 1 for a caller fault, 2 for a data fault.
 
 #![forbid(unsafe_code)]
@@ -43,6 +43,7 @@ const COMMANDS: &[(&str, Command)] = &[
     ("encrypt", cipher::encrypt),
     ("decrypt", cipher::decrypt),
     ("mask", cipher::mask),
+    ("blocks", cipher::blocks),
     ("record", record::record),
     ("pipe", pipe::pipe),
     ("sheet", sheet::sheet),

@@ -86,6 +86,18 @@ fn form_1_is_still_covered() {
     assert!(printed(&format!("mask --offset 0 --form 1 {KEY} {BLOCK}")).starts_with("7e5db7c5"));
 }
 
+/// Mask(o+14) begins 0f 36 at offset 3 and c9 f0 at offset 15, so of the ciphertext 8e a2 .. form 1 makes 81 94 and 47 52.
+#[test]
+fn blocks_are_made_in_their_order() {
+    let made = printed(&format!("blocks --offsets 030f --form 1 {KEY} {BLOCK} {BLOCK}"));
+    let beginnings: Vec<&str> = made.lines().map(|line| &line[..4]).collect();
+    assert_eq!(beginnings, ["8194", "4752"]);
+    let (out, failed) = typed("blocks --offsets 000f07", &format!("{KEY}\n{BLOCK} {BLOCK}\n{BLOCK}\n"));
+    assert_eq!((out, failed), (format!("{CIPHERTEXT}\n").repeat(3), None));
+    let (out, failed) = typed(&format!("blocks --offsets - {KEY}"), "");
+    assert_eq!((out.as_str(), failed), ("", None));
+}
+
 /// What was wrong, where, what was expected, and the library's number, sorted by the library.
 #[test]
 fn refusals_say_what_was_wrong() {
@@ -100,7 +112,8 @@ fn refusals_say_what_was_wrong() {
         ),
         (
             format!("decrypt {KEY} {KEY}"),
-            "block, argument 2: 32 bytes: the input block is not 16 bytes long (reply 3, INPUT_LENGTH)",
+            "block, argument 2: 32 bytes: the input is not 16 bytes long; of many blocks, not 16 for each of 256 at most \
+             (reply 3, INPUT_LENGTH)",
             1,
         ),
         (
@@ -108,9 +121,30 @@ fn refusals_say_what_was_wrong() {
             "masks, option --masks: 1 bytes: the mask table is not 16 bytes long (reply 5, MASKS_LENGTH)",
             1,
         ),
-        (format!("mask --offset 16 {KEY} {BLOCK}"), "--offset 16: the offset is above 15 (reply 6, OFFSET_RANGE)", 1),
-        (format!("mask --offset 272 {KEY} {BLOCK}"), "--offset 272: the offset is above 15 (reply 6, OFFSET_RANGE)", 1),
+        (format!("mask --offset 16 {KEY} {BLOCK}"), "--offset 16: an offset is above 15 (reply 6, OFFSET_RANGE)", 1),
+        (format!("mask --offset 272 {KEY} {BLOCK}"), "--offset 272: an offset is above 15 (reply 6, OFFSET_RANGE)", 1),
         (format!("mask --offset 1 --form 2 {KEY} {BLOCK}"), "--form 2: the form is neither 0 nor 1 (reply 7, FORM_UNKNOWN)", 1),
+        (
+            format!("blocks --offsets 00 {KEY} {BLOCK} 00"),
+            "blocks, the last arguments: 17 bytes: the input is not 16 bytes long; of many blocks, not 16 for each of 256 at most \
+             (reply 3, INPUT_LENGTH)",
+            1,
+        ),
+        (
+            format!("blocks --offsets 00 {KEY} {BLOCK} {BLOCK}"),
+            "offsets, option --offsets: 1 bytes: there is not one offset for each block (reply 14, OFFSETS_LENGTH)",
+            1,
+        ),
+        (
+            format!("blocks --offsets 0010 {KEY} {BLOCK} {BLOCK}"),
+            "offsets, option --offsets: 10 for block 1: an offset is above 15 (reply 6, OFFSET_RANGE)",
+            1,
+        ),
+        (
+            format!("blocks --offsets 00 --form 2 {KEY} {BLOCK}"),
+            "--form 2: the form is neither 0 nor 1 (reply 7, FORM_UNKNOWN)",
+            1,
+        ),
         (format!("sheet read {sheet}"), "sheet, argument 2: 5 bytes: the sheet is not 21 bytes long (reply 11, SHEET_LENGTH)", 2),
         (
             format!("sheet read 00{}{PUBLISHED}", &sheet[2..]),
@@ -222,7 +256,7 @@ fn vectors_are_counted_and_a_wrong_one_is_a_data_fault() {
     fs::write(&file, format!("{KEY} {BLOCK} 00\n")).unwrap();
     assert!(refused(&line)
         .0
-        .ends_with("line 1, ciphertext: 1 bytes: the input block is not 16 bytes long (reply 3, INPUT_LENGTH)"));
+        .ends_with("line 1, ciphertext: 1 bytes: the input is not 16 bytes long; of many blocks, not 16 for each of 256 at most (reply 3, INPUT_LENGTH)"));
     fs::write(&file, "# C.3\n").unwrap();
     assert!(refused(&line).0.contains("no vector in it"));
     fs::remove_dir_all(folder).unwrap();

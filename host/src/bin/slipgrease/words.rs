@@ -120,6 +120,21 @@ impl<'a> Words<'a> {
         given(what, place, &word)
     }
 
+    /// The bytes of all arguments that are left, or of all words of standard input where there is none.
+    pub fn all_bytes(&mut self, what: &'static str) -> Result<Given, Fault> {
+        if self.left.is_empty() {
+            let mut rest = String::new();
+            self.input.read_to_string(&mut rest)?;
+            let words = self.waiting.drain(..).chain(rest.split_whitespace().map(str::to_string));
+            return given(what, "standard input".to_string(), &words.collect::<String>());
+        }
+        let mut text = String::new();
+        while !self.left.is_empty() {
+            text += &self.word(what)?.0;
+        }
+        given(what, "the last arguments".to_string(), &text)
+    }
+
     /// All that was given must have been used.
     pub fn end(&mut self) -> Result<(), Fault> {
         match self.left.first() {
