@@ -22,17 +22,21 @@ pub const PUBLISHED_STATES: usize = 8;
 
 pub const PUBLISHED_CHAINS: usize = 9;
 
-pub const OTHER_ECB: usize = 10;
+pub const MANY_ECB: usize = 10;
 
-pub const OTHER_FORM_1: usize = 11;
+pub const MANY_FORM_1: usize = 11;
 
-pub const OTHER_STATES: usize = 12;
+pub const OTHER_ECB: usize = 12;
 
-pub const OTHER_CHAINS: usize = 13;
+pub const OTHER_FORM_1: usize = 13;
 
-const ALL: usize = 14;
+pub const OTHER_STATES: usize = 14;
 
-const ROWS: usize = 15;
+pub const OTHER_CHAINS: usize = 15;
+
+const ALL: usize = 16;
+
+const ROWS: usize = 17;
 
 // A row has two cells, for the vectors that were run and for those that differ; the last cell counts the faults.
 pub const FAULTS: usize = 2 * ROWS;
@@ -87,6 +91,8 @@ AES-256 vectors                                run   differ
   masked, published masks: NIST ECB, form 1      0        0
   masked, published masks: C.3 states            0        0
   masked, published masks: chains                0        0
+  masked, many blocks: NIST ECB                  0        0
+  masked, many blocks: NIST ECB, form 1          0        0
   masked, other masks: NIST ECB                  0        0
   masked, other masks: NIST ECB, form 1          0        0
   masked, other masks: C.3 states                0        0

@@ -1,5 +1,6 @@
 // Runs the vectors of standard input on the library, and prints how many of each source were run and how many differ. A line
 // that starts with # names the source of the lines below it; each other line is one vector.
+mod batch;
 mod c3;
 mod calls;
 mod counts;
@@ -43,15 +44,20 @@ fn at_end() -> bool {
 }
 
 fn run(text: &[u8], counts: &mut [u64; CELLS]) {
+    let mut batch = batch::empty([0u8; 32]);
     let mut source = sources::UNKNOWN;
     let mut number = 0;
     let mut at = 0;
     while at < text.len() {
         number += 1;
         let end = text::end_of(text, at, b'\n');
-        source = one_line(&text[at..end], number, source, counts);
+        let line = &text[at..end];
+        source = one_line(line, number, source, counts);
+        let gathered = batch::gather(batch, line, source, counts);
+        batch = gathered;
         at = text::past(text, at, b'\n');
     }
+    batch::run(batch, counts);
 }
 
 // Answers the source of the lines below.

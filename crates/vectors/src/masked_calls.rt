@@ -1,4 +1,4 @@
-// The encrypting calls of the masked engine, held to what a vector says. A reply other than 0 is a difference.
+// The calls of the masked engine that encrypt one block, held to what a vector says. A reply other than 0 is a difference.
 use crate::calls::same_block;
 use crate::counts;
 use crate::counts::CELLS;
@@ -63,7 +63,7 @@ fn encrypts(
 }
 
 // What a form writes where the cipher block is this: in form 1, Mask(offset + 14) is still over it.
-fn finished(form: u8, table: [u8; 16], offset: u8, cipher: [u8; 16]) -> [u8; 16] {
+pub fn finished(form: u8, table: [u8; 16], offset: u8, cipher: [u8; 16]) -> [u8; 16] {
     if form == 0 {
         return cipher;
     }
@@ -101,8 +101,8 @@ fn chain(
     same_block(&block, end)
 }
 
-// The offset of a call, by its number.
-fn turned(i: usize) -> u8 {
+// The offset of a call, or of a block in a call of many, by its number.
+pub fn turned(i: usize) -> u8 {
     (i % 16) as u8
 }
 

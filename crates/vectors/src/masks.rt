@@ -3,7 +3,7 @@ use aes::mix_columns;
 use aes::shift_rows;
 use aes::tables;
 
-// Which of the two masked calls is made: the one that has the published masks, or the one that is lent other masks.
+// Which of the two masked calls of one block is made: the one that has the published masks, or the one that is lent other masks.
 pub enum Masks {
     Published,
     Other,
@@ -18,7 +18,7 @@ pub fn table(masks: Masks, block: &[u8; 16]) -> [u8; 16] {
 }
 
 // M0 to M15, as document 002 has them.
-fn published() -> [u8; 16] {
+pub fn published() -> [u8; 16] {
     *b"\x00\x0f\x36\x39\x53\x5c\x65\x6a\x95\x9a\xa3\xac\xc6\xc9\xf0\xff"
 }
 

@@ -13,7 +13,9 @@ use crate::masks::Masks;
 use crate::text::place_of;
 use crate::text::read_field;
 
-// A source is the place of its header among all headers; this number stands for none of them.
+// A source is the place of its header among all headers; the last number stands for none of them.
+pub const ECB: usize = 0;
+
 pub const UNKNOWN: usize = 5;
 
 // What is run of a key and two blocks.
@@ -35,7 +37,7 @@ pub fn source_of(header: &[u8]) -> usize {
 
 pub fn run(line: &[u8], source: usize, counts: &mut [u64; CELLS]) -> u8 {
     match source {
-        0 => blocks(line, Kind::Ecb, counts),
+        ECB => blocks(line, Kind::Ecb, counts),
         1 => key_expansion(line, counts),
         2 => c3::state(line, counts),
         3 => blocks(line, Kind::EncryptedChain, counts),
@@ -44,15 +46,11 @@ pub fn run(line: &[u8], source: usize, counts: &mut [u64; CELLS]) -> u8 {
     }
 }
 
-// A key, a plain block and a cipher block.
 fn blocks(line: &[u8], kind: Kind, counts: &mut [u64; CELLS]) -> u8 {
     let mut key = [0u8; 32];
     let mut plain = [0u8; 16];
     let mut cipher = [0u8; 16];
-    let first = read_field(line, 0, 2, &mut key);
-    let second = read_field(line, 1, 2, &mut plain);
-    let third = read_field(line, 2, 2, &mut cipher);
-    let fault = either(first, either(second, third));
+    let fault = read_blocks(line, &mut key, &mut plain, &mut cipher);
     if fault == fault::NONE {
         match kind {
             Kind::Ecb => ecb(&key, &plain, &cipher, counts),
@@ -61,6 +59,19 @@ fn blocks(line: &[u8], kind: Kind, counts: &mut [u64; CELLS]) -> u8 {
         }
     }
     fault
+}
+
+// Reads a key, a plain block and a cipher block, and answers what is wrong.
+pub fn read_blocks(
+    line: &[u8],
+    key: &mut [u8; 32],
+    plain: &mut [u8; 16],
+    cipher: &mut [u8; 16],
+) -> u8 {
+    let first = read_field(line, 0, 2, key);
+    let second = read_field(line, 1, 2, plain);
+    let third = read_field(line, 2, 2, cipher);
+    either(first, either(second, third))
 }
 
 // Both ways, and by the masked engine.

@@ -6,10 +6,10 @@ use Rattle.vectors.proofs.counts.fill.Statement.{statement}
 use Rattle.vectors.proofs.counts.fill.Tie as tie
 
 abbrev Inv-loop : tie.InvT-loop
-Inv-loop table₀ counts cell₀ table cell = cell ≤ 31
+Inv-loop table₀ counts cell₀ table cell = cell ≤ 35
 
 abbrev μ-loop : tie.MeasureT-loop
-μ-loop table₀ counts cell₀ table cell = 31 - cell
+μ-loop table₀ counts cell₀ table cell = 35 - cell
 
 pub fill-spec : {M : Type 1} → statement M
 fill-spec =
