@@ -6,7 +6,8 @@
 
 #include "translated.h"
 
-enum { CASES = 20, UNTOUCHED = 0xa5 };
+// The longest input that is tried is one block longer than any that is taken.
+enum { CASES = 20, UNTOUCHED = 0xa5, LONGEST = BLOCK_BYTES * (MOST_BLOCKS + 1) };
 
 static const struct engine *const engines[] = {&library, &translation};
 
@@ -61,6 +62,40 @@ static void check_block(const struct vectors *vectors, size_t number, size_t eng
     expect(same(states + RECORD_BYTES - BLOCK_BYTES, cipher, BLOCK_BYTES), engine, RECORD_MASKED, "vector", number + 1);
 }
 
+// How many vectors, from one on, have the same key.
+static size_t under_one_key(const struct vectors *vectors, size_t first)
+{
+    size_t count = 1;
+    while (count < MOST_BLOCKS && first + count < BLOCKS &&
+           same(vectors->block[first].key, vectors->block[first + count].key, KEY_BYTES))
+        count++;
+    return count;
+}
+
+// The vectors from one on that are under its key, in one call. The offsets go with their numbers. Gives how many they are.
+static size_t check_many(const struct vectors *vectors, size_t first, size_t engine)
+{
+    uint8_t schedule[SCHEDULE_BYTES], offsets[MOST_BLOCKS], input[LONGEST], output[LONGEST], form_1[BLOCK_BYTES];
+    size_t count = under_one_key(vectors, first), length = BLOCK_BYTES * count;
+
+    for (size_t k = 0; k < count; k++) {
+        memcpy(input + BLOCK_BYTES * k, vectors->block[first + k].plain, BLOCK_BYTES);
+        offsets[k] = (uint8_t)((first + k) % 16);
+    }
+    library.expand_key(vectors->block[first].key, KEY_BYTES, schedule, SCHEDULE_BYTES);
+    for (uint8_t form = 0; form < 2; form++) {
+        memset(output, UNTOUCHED, length);
+        engines[engine]->encrypt_blocks(schedule, SCHEDULE_BYTES, input, length, output, length, offsets, count, form);
+        for (size_t k = 0; k < count; k++) {
+            const uint8_t *cipher = vectors->block[first + k].cipher;
+            cover(form_1, cipher, published_masks, offsets[k]);
+            expect(same(output + BLOCK_BYTES * k, form == 0 ? cipher : form_1, BLOCK_BYTES), engine, ENCRYPT_BLOCKS, "vector",
+                   first + k + 1);
+        }
+    }
+    return count;
+}
+
 // FIPS 197 A.3, and the states of C.3: under masks 00 the covered states are the plain ones.
 static void check_appendix(const struct vectors *vectors, size_t engine)
 {
@@ -95,19 +130,23 @@ static void draw(uint8_t *bytes, size_t length)
 
 // A call of both engines: lengths, offset and form are given, and everything that a call can write is compared, reply and bytes.
 struct arguments {
-    size_t key, schedule, input, output, masks, states;
+    size_t key, schedule, input, output, masks, states, offsets;
+    // Of many offsets this is the last; those before it are in range.
     uint8_t offset, form;
 };
 
 static void compare(enum call call, const struct arguments *a, size_t number)
 {
-    uint8_t key[KEY_BYTES + 1], schedule[SCHEDULE_BYTES + 1], input[BLOCK_BYTES + 1], masks[MASK_BYTES + 1];
-    uint8_t written[2][RECORD_BYTES + 1], reply[2];
+    uint8_t key[KEY_BYTES + 1], schedule[SCHEDULE_BYTES + 1], input[LONGEST], masks[MASK_BYTES + 1], offsets[MOST_BLOCKS + 1];
+    uint8_t written[2][LONGEST], reply[2];
 
     draw(key, sizeof key);
     draw(schedule, sizeof schedule);
-    draw(input, sizeof input);
+    draw(input, a->input);
     draw(masks, sizeof masks);
+    draw(offsets, a->offsets);
+    for (size_t k = 0; k < a->offsets; k++)
+        offsets[k] = k + 1 < a->offsets ? offsets[k] % 16 : a->offset;
     memset(written, UNTOUCHED, sizeof written);
     for (size_t i = 0; i < 2; i++) {
         const struct engine *e = engines[i];
@@ -125,6 +164,9 @@ static void compare(enum call call, const struct arguments *a, size_t number)
         case ENCRYPT_PUBLISHED:
             reply[i] = e->encrypt_published(schedule, a->schedule, input, a->input, to, a->output, a->offset, a->form);
             break;
+        case ENCRYPT_BLOCKS:
+            reply[i] = e->encrypt_blocks(schedule, a->schedule, input, a->input, to, a->output, offsets, a->offsets, a->form);
+            break;
         case ENCRYPT_MASKED:
             reply[i] = e->encrypt_masked(schedule, a->schedule, input, a->input, to, a->output, masks, a->masks, a->offset,
                                          a->form);
@@ -139,7 +181,7 @@ static void compare(enum call call, const struct arguments *a, size_t number)
     expect(reply[0] == reply[1] && same(written[0], written[1], sizeof written[0]), 1, call, "comparison", number);
 }
 
-static const struct arguments taken = {KEY_BYTES, SCHEDULE_BYTES, BLOCK_BYTES, BLOCK_BYTES, MASK_BYTES, RECORD_BYTES, 0, 0};
+static const struct arguments taken = {KEY_BYTES, SCHEDULE_BYTES, BLOCK_BYTES, BLOCK_BYTES, MASK_BYTES, RECORD_BYTES, 1, 0, 0};
 
 static void compare_taken(enum call call)
 {
@@ -154,7 +196,7 @@ static void compare_taken(enum call call)
 // Each of the arguments too small, right or too great, all together.
 static void compare_refused(enum call call)
 {
-    struct arguments a;
+    struct arguments a = taken;
     for (size_t choice = 0; choice < 3 * 3 * 3 * 3 * 3 * 3 * 2 * 2; choice++) {
         size_t rest = choice;
         a.key = taken.key - 1 + rest % 3;
@@ -169,6 +211,35 @@ static void compare_refused(enum call call)
     }
 }
 
+// Every number of blocks that is taken, none too.
+static void compare_many_taken(void)
+{
+    struct arguments a = taken;
+    for (a.offsets = 0; a.offsets <= MOST_BLOCKS; a.offsets++)
+        for (a.form = 0; a.form < 2; a.form++) {
+            a.input = a.output = BLOCK_BYTES * a.offsets;
+            a.offset = (uint8_t)(a.offsets % 16);
+            compare(ENCRYPT_BLOCKS, &a, a.offsets);
+        }
+}
+
+// Lengths about no block, one block and the most, each with each, and an offset and a form that are right or too great.
+static void compare_many_refused(void)
+{
+    static const size_t lengths[] = {0, 15, 16, 17, 4095, 4096, 4097, 4112}, counts[] = {0, 1, 2, 255, 256, 257};
+    struct arguments a = taken;
+    for (size_t choice = 0; choice < 8 * 8 * 6 * 3 * 2 * 2; choice++) {
+        size_t rest = choice;
+        a.input = lengths[rest % 8];
+        a.output = lengths[(rest /= 8) % 8];
+        a.offsets = counts[(rest /= 8) % 6];
+        a.schedule = taken.schedule - 1 + (rest /= 6) % 3;
+        a.offset = (uint8_t)(15 + (rest /= 3) % 2);
+        a.form = (uint8_t)(1 + rest / 2);
+        compare(ENCRYPT_BLOCKS, &a, choice + 1);
+    }
+}
+
 int check_engines(const struct vectors *vectors)
 {
     int faults = 0;
@@ -176,8 +247,12 @@ int check_engines(const struct vectors *vectors)
     for (size_t engine = 0; engine < 2; engine++) {
         for (size_t number = 0; number < BLOCKS; number++)
             check_block(vectors, number, engine);
+        for (size_t first = 0; first < BLOCKS;)
+            first += check_many(vectors, first, engine);
         check_appendix(vectors, engine);
     }
+    compare_many_taken();
+    compare_many_refused();
     for (int call = 0; call < CALLS; call++) {
         compare_taken((enum call)call);
         compare_refused((enum call)call);

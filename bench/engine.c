@@ -6,7 +6,8 @@
 #include <slipgrease.h>
 
 const char *const call_names[CALLS] = {
-    "expand_key", "encrypt", "decrypt", "encrypt_published", "encrypt_masked", "record_plain", "record_masked",
+    "expand_key",     "encrypt",        "decrypt",      "encrypt_published",
+    "encrypt_blocks", "encrypt_masked", "record_plain", "record_masked",
 };
 
 const struct engine library = {
@@ -15,6 +16,7 @@ const struct engine library = {
     slipgrease_encrypt,
     slipgrease_decrypt,
     slipgrease_encrypt_published,
+    slipgrease_encrypt_blocks,
     slipgrease_encrypt_masked,
     slipgrease_record_plain,
     slipgrease_record_masked,
@@ -26,6 +28,7 @@ const struct engine translation = {
     translated_encrypt,
     translated_decrypt,
     translated_encrypt_published,
+    translated_encrypt_blocks,
     translated_encrypt_masked,
     translated_record_plain,
     translated_record_masked,

@@ -1,4 +1,4 @@
-// The seven calls that are measured, of the library and of its C translation, under the same arguments: a slice goes as a pointer
+// The eight calls that are measured, of the library and of its C translation, under the same arguments: a slice goes as a pointer
 // and a length.
 #ifndef ENGINE_H
 #define ENGINE_H
@@ -6,9 +6,9 @@
 #include <stddef.h>
 #include <stdint.h>
 
-enum { KEY_BYTES = 32, SCHEDULE_BYTES = 240, BLOCK_BYTES = 16, MASK_BYTES = 16, RECORD_BYTES = 1136 };
+enum { KEY_BYTES = 32, SCHEDULE_BYTES = 240, BLOCK_BYTES = 16, MASK_BYTES = 16, RECORD_BYTES = 1136, MOST_BLOCKS = 256 };
 
-enum call { EXPAND_KEY, ENCRYPT, DECRYPT, ENCRYPT_PUBLISHED, ENCRYPT_MASKED, RECORD_PLAIN, RECORD_MASKED, CALLS };
+enum call { EXPAND_KEY, ENCRYPT, DECRYPT, ENCRYPT_PUBLISHED, ENCRYPT_BLOCKS, ENCRYPT_MASKED, RECORD_PLAIN, RECORD_MASKED, CALLS };
 
 extern const char *const call_names[CALLS];
 
@@ -21,6 +21,9 @@ struct engine {
                        uint8_t *output, size_t output_length);
     uint8_t (*encrypt_published)(const uint8_t *schedule, size_t schedule_length, const uint8_t *input, size_t input_length,
                                  uint8_t *output, size_t output_length, uint8_t offset, uint8_t form);
+    uint8_t (*encrypt_blocks)(const uint8_t *schedule, size_t schedule_length, const uint8_t *input, size_t input_length,
+                              uint8_t *output, size_t output_length, const uint8_t *offsets, size_t offsets_length,
+                              uint8_t form);
     uint8_t (*encrypt_masked)(const uint8_t *schedule, size_t schedule_length, const uint8_t *input, size_t input_length,
                               uint8_t *output, size_t output_length, const uint8_t *masks, size_t masks_length, uint8_t offset,
                               uint8_t form);

@@ -43,6 +43,7 @@ int has_call(const struct maker *maker, enum call call)
 static struct {
     uint8_t key[KEY_BYTES], schedule[SCHEDULE_BYTES], plain[BLOCK_BYTES], cipher[BLOCK_BYTES], output[BLOCK_BYTES];
     uint8_t states[RECORD_BYTES];
+    uint8_t blocks[BLOCK_BYTES * MOST_BLOCKS], outputs[BLOCK_BYTES * MOST_BLOCKS], offsets[MOST_BLOCKS];
 } work;
 
 enum { OFFSET = 5, FORM = 0 };
@@ -53,6 +54,10 @@ void start(const struct maker *maker)
         work.key[i] = (uint8_t)i;
     for (size_t i = 0; i < BLOCK_BYTES; i++)
         work.plain[i] = (uint8_t)(0x11 * i);
+    for (size_t i = 0; i < MOST_BLOCKS; i++) {
+        memcpy(work.blocks + BLOCK_BYTES * i, work.plain, BLOCK_BYTES);
+        work.offsets[i] = (uint8_t)(i % 16);
+    }
     library.expand_key(work.key, KEY_BYTES, work.schedule, SCHEDULE_BYTES);
     library.encrypt(work.schedule, SCHEDULE_BYTES, work.plain, BLOCK_BYTES, work.cipher, BLOCK_BYTES);
     translated_prepare();
@@ -78,6 +83,11 @@ static void repeat_engine(const struct engine *e, enum call call, long times)
     case ENCRYPT_PUBLISHED:
         while (times-- > 0)
             e->encrypt_published(work.schedule, SCHEDULE_BYTES, work.plain, BLOCK_BYTES, work.output, BLOCK_BYTES, OFFSET, FORM);
+        break;
+    case ENCRYPT_BLOCKS:
+        while (times-- > 0)
+            e->encrypt_blocks(work.schedule, SCHEDULE_BYTES, work.blocks, sizeof work.blocks, work.outputs, sizeof work.outputs,
+                              work.offsets, MOST_BLOCKS, FORM);
         break;
     case ENCRYPT_MASKED:
         while (times-- > 0)

@@ -1,9 +1,9 @@
-// The masked engine, translated: encryption with the published masks from stored boxes, encryption with sixteen lent masks, whose
-// boxes are worked out in each call, and the recorded run.
+// The masked engine, translated: encryption of one block and of many with the published masks from stored boxes, encryption with
+// sixteen lent masks, whose boxes are worked out in each call, and the recorded run.
 #include "state.h"
 #include "translated.h"
 
-enum { MASKS = 16 };
+enum { MASKS = 16, MOST_BLOCKS = 256 };
 
 static const uint8_t published[MASKS] = {
     0x00, 0x0f, 0x36, 0x39, 0x53, 0x5c, 0x65, 0x6a, 0x95, 0x9a, 0xa3, 0xac, 0xc6, 0xc9, 0xf0, 0xff,
@@ -148,6 +148,26 @@ static inline uint8_t refusal(size_t schedule_length, size_t input_length, size_
     return DONE;
 }
 
+// The same of many blocks, each with its own offset.
+static inline uint8_t refusal_of_many(size_t schedule_length, size_t input_length, size_t output_length, const uint8_t *offsets,
+                                      size_t offsets_length, uint8_t form)
+{
+    if (schedule_length != SCHEDULE)
+        return SCHEDULE_LENGTH;
+    if (input_length % BLOCK != 0 || input_length > BLOCK * MOST_BLOCKS)
+        return INPUT_LENGTH;
+    if (output_length != input_length)
+        return OUTPUT_LENGTH;
+    if (offsets_length != input_length / BLOCK)
+        return OFFSETS_LENGTH;
+    for (size_t k = 0; k < offsets_length; k++)
+        if (offsets[k] > 15)
+            return OFFSET_RANGE;
+    if (form > 1)
+        return FORM_UNKNOWN;
+    return DONE;
+}
+
 uint8_t translated_encrypt_published(const uint8_t *schedule, size_t schedule_length, const uint8_t *input, size_t input_length,
                                      uint8_t *restrict output, size_t output_length, uint8_t offset, uint8_t form)
 {
@@ -155,6 +175,18 @@ uint8_t translated_encrypt_published(const uint8_t *schedule, size_t schedule_le
     if (refused != DONE)
         return refused;
     run(schedule, input, output, published, &stored, offset, form);
+    return DONE;
+}
+
+uint8_t translated_encrypt_blocks(const uint8_t *schedule, size_t schedule_length, const uint8_t *input, size_t input_length,
+                                  uint8_t *restrict output, size_t output_length, const uint8_t *offsets, size_t offsets_length,
+                                  uint8_t form)
+{
+    uint8_t refused = refusal_of_many(schedule_length, input_length, output_length, offsets, offsets_length, form);
+    if (refused != DONE)
+        return refused;
+    for (size_t k = 0; k < offsets_length; k++, input += BLOCK, output += BLOCK)
+        run(schedule, input, output, published, &stored, offsets[k], form);
     return DONE;
 }
 

@@ -1,6 +1,7 @@
-# Draws the benchmark's counts as SVG: awk -v foot=TEXT -f plot.awk COUNTS, where a line is call, name and instructions. On the
-# left each call is measured by its C translation, on a scale that begins at 0; on the right key expansion and a block each way
-# stand beside other libraries, on a logarithmic scale.
+# Draws the benchmark's counts as SVG: awk -v many=CALL -v foot=TEXT -f plot.awk COUNTS, where a line is call, name and
+# instructions, and `many` is the call under whose name one block of many stands. On the left each call is measured by its C
+# translation, on a scale that begins at 0; on the right key expansion and a block each way stand beside other libraries, on a
+# logarithmic scale.
 function grouped(number,   text) {
     text = number
     while (text ~ /[0-9][0-9][0-9][0-9](,|$)/) sub(/[0-9][0-9][0-9](,|$)/, ",&", text)
@@ -79,7 +80,8 @@ END {
     end = top
     for (i = 1; i <= 3; i++) end += row * makers[call[i]] + gap
     end -= gap - 12
-    if (end < top + 8 * 72 - 20) end = top + 8 * 72 - 20
+    pairs = calls + 2
+    if (end < top + pairs * 72 - 20) end = top + pairs * 72 - 20
     height = end + 86
     printf "<svg xmlns=\"http://www.w3.org/2000/svg\" viewBox=\"0 0 %d %d\" width=\"%d\" height=\"%d\">\n",
         width, height, width, height
@@ -97,8 +99,9 @@ END {
     print "line.met { stroke: #1a7f37 } line.missed { stroke: #cf222e }"
     print "</style>"
     bar(0, 0, width, height, "paper")
-    text(left, 52, "title", "start", "Slipgrease: instructions for one call")
-    text(left, 78, "under", "start", "AES-256, one key or one block a call, tables and checks included; shorter is better")
+    text(left, 52, "title", "start", "Slipgrease: instructions for one key or one block")
+    text(left, 78, "under", "start",
+        "AES-256, one key or one block a call, and 256 in encrypt_blocks; tables and checks included; shorter is better")
 
     text(left, 122, "head", "start", "Beside the same steps in C, gcc -O3")
     text(left, 142, "axis", "start", "the C translation is 1; a mark shows the target")
@@ -106,11 +109,13 @@ END {
         line(left + unit * i / 4, top - 20, left + unit * i / 4, end, i == 4 ? "one" : "grid")
         text(left + unit * i / 4, end + 17, "axis", "middle", i / 4)
     }
-    between = (end - top + 12) / (calls + 1)
+    between = (end - top + 12) / pairs
     for (i = 1; i <= calls; i++)
         pair(call[i], top + (i - 1) * between, count[call[i], ours], count[call[i], c], "C", "c", bound[call[i]])
     pair("encrypt_published beside encrypt", top + calls * between, count["encrypt_published", ours], count["encrypt", ours],
         "encrypt", "plain", "1.5")
+    pair(many ", beside encrypt_published", top + (calls + 1) * between, count[many, ours], count["encrypt_published", ours],
+        "encrypt_published", "plain", "0.9")
 
     text(right, 122, "head", "start", "Beside other libraries")
     legend(right, 142, "ours", "Slipgrease")

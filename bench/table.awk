@@ -1,6 +1,7 @@
-# Prints the benchmark's table of what was timed and counted: awk -f table.awk kind=times FILE kind=off FILE kind=counts FILE.
-# Lines of times are call, name, nanoseconds and noise in per cent; `off` are those where AES-NI was hidden, with the library
-# timed again beside them; counts are call, name and instructions.
+# Prints the benchmark's table of what was timed and counted: awk -v many=CALL -f table.awk kind=times FILE kind=off FILE
+# kind=counts FILE. Lines of times are call, name, nanoseconds and noise in per cent; `off` are those where AES-NI was hidden,
+# with the library timed again beside them; counts are call, name and instructions. `many` is the call under whose name one
+# block of many stands.
 function grouped(number,   text) {
     if (number == "") return "-"
     text = number
@@ -14,7 +15,7 @@ function percent(number) { return number == "" ? "-" : sprintf("%.0f %%", number
 function target(text, bound, instructions, others,   verdict) {
     verdict = instructions <= bound * others ? "met" : "missed"
     if (instructions == "" || others == "") verdict = "not counted"
-    printf "%-50s at most %.1f  %6s  %s\n", text, bound, ratio(instructions, others), verdict
+    printf "%-56s at most %.1f  %6s  %s\n", text, bound, ratio(instructions, others), verdict
 }
 BEGIN { FS = "\t"; ours = "the library"; c = "the C translation" }
 
@@ -31,11 +32,11 @@ kind == "times" || kind == "off" {
 END {
     print "Beside the same steps in C"
     print ""
-    printf "%-19s %19s %31s\n", "", "nanoseconds", "instructions"
-    printf "%-19s %8s %8s %6s %7s %9s %9s %6s\n", "call", "ours", "C", "ratio", "noise", "ours", "C", "ratio"
+    printf "%-30s %19s %31s\n", "", "nanoseconds", "instructions"
+    printf "%-30s %8s %8s %6s %7s %9s %9s %6s\n", "call", "ours", "C", "ratio", "noise", "ours", "C", "ratio"
     for (i = 1; i <= calls; i++) {
         n = call[i]
-        printf "%-19s %8s %8s %6s %7s %9s %9s %6s\n", n, nanoseconds(time[n, ours]), nanoseconds(time[n, c]),
+        printf "%-30s %8s %8s %6s %7s %9s %9s %6s\n", n, nanoseconds(time[n, ours]), nanoseconds(time[n, c]),
             ratio(time[n, ours], time[n, c]), percent(greater(noise[n, ours], noise[n, c])),
             grouped(count[n, ours]), grouped(count[n, c]), ratio(count[n, ours], count[n, c])
     }
@@ -46,6 +47,7 @@ END {
     target("encrypt_published beside its translation", 1.0, count["encrypt_published", ours], count["encrypt_published", c])
     target("encrypt_masked beside its translation", 0.7, count["encrypt_masked", ours], count["encrypt_masked", c])
     target("encrypt_published beside encrypt", 1.5, count["encrypt_published", ours], count["encrypt", ours])
+    target(many ", beside encrypt_published", 0.9, count[many, ours], count["encrypt_published", ours])
     if (!any_peer) exit
     print ""
     print "Beside other libraries"
