@@ -1,4 +1,5 @@
-// Masked encryption of many blocks with the published masks, each at its own offset. What hangs on no block is made once.
+// Masked encryption of many blocks with the published masks, each at its own offset. Masks, boxes and compensations are made
+// once.
 ghost use mathlib.Core.Path.{_≡_};
 ghost use mathlib.Core.List.{[], _∷_};
 ghost use Prim.Native.Nat.{_<_};
