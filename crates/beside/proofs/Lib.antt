@@ -1,2 +1,4 @@
+pub mod Even
 pub mod MaskedInversion
+pub mod Triples
 pub mod Unique

@@ -1,14 +1,15 @@
 // The fitness test of a mask table.
 ghost use mathlib.Core.Path.{_≡_};
-ghost use mathlib.Core.Bool.{not, cond};
-ghost use Prim.Native.Nat.{_<_};
-ghost use lib.Dec.{eqb};
+ghost use mathlib.Core.Bool.{cond};
+ghost use Prim.Native.Nat.{_*_, _^_, _<_};
 ghost use lib.ListN.{length};
-ghost use Rattle.aes.specs.Byte.{below};
 ghost use Rattle.aes.specs.State.{at};
-ghost use Rattle.beside.specs.Fitness.{fit, fitnessOf};
+ghost use Rattle.beside.specs.Fitness.{pattern, patterns, even, fit, fitnessOf};
 use aes::reply;
 use aes::reply::Valued;
+
+// Eight counts in a word, a byte each: every pattern twice.
+const EACH_TWICE: u64 = 0x0202_0202_0202_0202;
 
 // Value 1 where the table is fit, otherwise 0.
 pub fn fitness(masks: &[u8]) -> Valued
@@ -22,36 +23,56 @@ pub fn fitness(masks: &[u8]) -> Valued
     }
     Valued {
         number: reply::DONE,
-        value: all_different(masks),
+        value: balanced(masks),
     }
 }
 
-// 1 where the sixteen masks are all different, otherwise 0.
-fn all_different(masks: &[u8]) -> u8
+// 1 where any three bits of the sixteen masks show each of their eight patterns twice, otherwise 0.
+fn balanced(masks: &[u8]) -> u8
     requires { ⌜ length (now masks) ≡ 16 ⌝ }
     ensures { λ r. ⌜ r ≡ cond (fit (now (masks .entry))) 1 0 ⌝ }
 {
-    let mut i = 0;
-    while i < 16 {
-        if !new_at(masks, i) {
+    let mut x = 0;
+    let mut y = 1;
+    let mut z = 2;
+    while z < 8 {
+        if !even(masks, x, y, z) {
             return 0;
         }
-        i += 1;
+        x += 1;
+        if x < y {
+            continue;
+        }
+        x = 0;
+        y += 1;
+        if y < z {
+            continue;
+        }
+        y = 1;
+        z += 1;
     }
     1
 }
 
-// Whether the mask at i differs from all before it.
-fn new_at(masks: &[u8], i: usize) -> bool
-    requires { ⌜ i < length (now masks) ⌝ }
-    ensures { λ r. ⌜ r ≡ below i (λ j. not (eqb (at (now (masks .entry)) i) (at (now (masks .entry)) j))) ⌝ }
+// Whether the bits x, y and z of the masks show each of their eight patterns twice.
+fn even(masks: &[u8], x: u8, y: u8, z: u8) -> bool
+    requires { ⌜ (length (now masks) ≡ 16) × (x < 8) × (y < 8) × (z < 8) ⌝ }
+    ensures { λ r. ⌜ r ≡ even (patterns (at (now (masks .entry))) x y z) ⌝ }
 {
-    let mut j = 0;
-    while j < i {
-        if masks[i] == masks[j] {
-            return false;
-        }
-        j += 1;
+    let mut counts = 0;
+    let mut i = 0;
+    while i < 16 {
+        counts += tick(masks[i], x, y, z);
+        i += 1;
     }
-    true
+    counts == EACH_TWICE
+}
+
+// One, in the byte that the bits x, y and z of b name.
+fn tick(b: u8, x: u8, y: u8, z: u8) -> u64
+    requires { ⌜ (x < 8) × (y < 8) × (z < 8) ⌝ }
+    ensures { λ r. ⌜ r ≡ 2 ^ (8 * pattern x y z b) ⌝ }
+{
+    let pattern = ((b >> z) % 2 * 2 + (b >> y) % 2) * 2 + (b >> x) % 2;
+    1 << (8 * pattern)
 }

@@ -1,43 +1,123 @@
 -- Balance: the test says it, and a turn of the offsets and a fixed byte added to all keep it.
 -- Assumes nothing.
 use mathlib.Core.Path.{_≡_, refl, sym, ap, fun-ext, _∙_}
-use mathlib.Core.Bool.{Bool, true, false, cond}
+use mathlib.Core.Bool.{true, not, _&&_}
 use Prim.Native.Nat.{ℕ, zero, suc, _+_, _*_, _/_, _%_, _^_, _<_}
 use native.Mathlib.Omega.{arith}
-use native.Mathlib.Decide.{ℕ-discrete}
+use native.Mathlib.Decide.{ℕ-discrete, decLt}
 use lib.Dec.{T, eqb, eqb→eq}
 use lib.Bits.{xor-shr, xor-mod, xor-block, xor-lt}
+use mir.Facts.{and-yes, eqb-no}
 use borrow.Author.Tests.{eq-eqb, ne-eqb}
 use Rattle.aes.specs.Byte.{_⊕_, bit, listed, table, below}
-use Rattle.aes.specs.State.{at}
 use Rattle.aes.proofs.Xor.{mod-two, xor-cancel}
 use Rattle.aes.proofs.Listed.{table-same}
-use Rattle.aes.proofs.Below.{under}
-use Rattle.masked.specs.Mask.{published}
-use Rattle.theorems.specs.Balance.{pattern, count, times, different, Balanced, balanced}
-use Rattle.beside.specs.Fitness.{distinct}
+use Rattle.aes.proofs.Below.{below-all, under}
+use Rattle.beside.specs.Fitness.{pattern, count, even, balanced}
+use Rattle.beside.proofs.Even.{pattern-lt}
+use Rattle.theorems.specs.Balance.{times, different, Balanced}
 
--- computed: the published masks are balanced, and no two of them are equal
-pub published-balanced-test : T (balanced (at published))
-unfolding published balanced below pattern count different
-published-balanced-test = tt
+-- Where σ undoes itself, the counts move with the patterns.
+module _ (σ : ℕ → ℕ) (undone : (v : ℕ) → v < 8 → σ (σ v) ≡ v) where
+  same-eqb : (v t : ℕ) → v < 8 → t < 8 → eqb (σ v) t ≡ eqb v (σ t)
+  same-eqb v t hv ht =
+      elim (ℕ-discrete v (σ t)) [
+        | yes e ↦ rw (eq-eqb v (σ t) e) (eq-eqb (σ v) t (rw e (undone t ht)))
+        | no e ↦ rw (ne-eqb v (σ t) e) (ne-eqb (σ v) t (λ q. e (rw (← q) (sym (undone v hv)))))
+      ]
 
-pub published-distinct-test : T (distinct (at published))
-unfolding published distinct below
-published-distinct-test = tt
+  count-moved : (t : ℕ) → t < 8 → (g : ℕ → ℕ) → ((o : ℕ) → g o < 8) → (i n : ℕ)
+      → count t (listed (λ o. σ (g o)) i n) ≡ count (σ t) (listed g i n)
+  unfolding count
+  count-moved t ht g hg i zero = refl
+  count-moved t ht g hg i (suc n) = rw (same-eqb (g i) t (hg i) ht, count-moved t ht g hg (suc i) n)
 
-chosen : (d r : Bool) → T d → T (cond d r true) → T r
-chosen true r t h = h
-chosen false r t h = absurd t
+-- the bits x, y and z show each of their patterns twice
+Twice : (ℕ → ℕ) → ℕ → ℕ → ℕ → Type 0
+Twice f x y z = (t : ℕ) → t < 8 → times f x y z t ≡ 2
 
-pub balanced-test : (f : ℕ → ℕ) → T (balanced f) → Balanced f
-unfolding balanced
-balanced-test f h =
+moved : (σ : ℕ → ℕ) → ((v : ℕ) → v < 8 → σ (σ v) ≡ v) → ((v : ℕ) → v < 8 → σ v < 8)
+    → (f g : ℕ → ℕ) (x y z x′ y′ z′ : ℕ) → ((o : ℕ) → pattern x′ y′ z′ (g o) ≡ σ (pattern x y z (f o))) → Twice f x y z → Twice g x′ y′ z′
+unfolding Twice
+moved σ undone lt f g x y z x′ y′ z′ e twice t ht =
+    ap (λ (k : ℕ → ℕ). count t (listed k 0 16)) (fun-ext e)
+    ∙ count-moved σ undone t ht (λ o. pattern x y z (f o)) (λ o. pattern-lt x y z (f o)) 0 16
+    ∙ twice (σ t) (lt t ht)
+
+-- the same three bits in another order: the lower two exchanged, or the upper two
+module _ (f : ℕ → ℕ) where
+  lower : (x y z : ℕ) → Twice f x y z → Twice f y x z
+  unfolding pattern below
+  lower x y z =
+      moved σ (λ v h. eqb→eq (σ (σ v)) v (under (λ v. eqb (σ (σ v)) v) 8 tt v h)) (λ v h. omega arith) f f x y z y x z (λ o. omega arith)
+    where
+      σ : ℕ → ℕ
+      σ v = v / 4 * 4 + v % 2 * 2 + v / 2 % 2
+
+  upper : (x y z : ℕ) → Twice f x y z → Twice f x z y
+  unfolding pattern below
+  upper x y z =
+      moved σ (λ v h. eqb→eq (σ (σ v)) v (under (λ v. eqb (σ (σ v)) v) 8 tt v h)) (λ v h. omega arith) f f x y z x z y
+      (λ o. bits (bit (f o) x) (bit (f o) y) (bit (f o) z) (mod-two _) (mod-two _) (mod-two _))
+    where
+      σ : ℕ → ℕ
+      σ v = v / 2 % 2 * 4 + v / 4 * 2 + v % 2
+
+      bits : (a b c : ℕ) → a < 2 → b < 2 → c < 2 → (b * 2 + c) * 2 + a ≡ σ ((c * 2 + b) * 2 + a)
+      bits a b c ha hb hc =
+          let half : ((c * 2 + b) * 2 + a) / 2 ≡ c * 2 + b = omega arith in
+          let odd : (c * 2 + b) % 2 ≡ b = omega arith in
+          rw (half, odd) (omega arith)
+
+  -- the test is of three bits as they rise, and tells of any three
+  rising : T (balanced f) → (x y z : ℕ) → x < y → y < z → z < 8 → Twice f x y z
+  unfolding Twice balanced even
+  rising h x y z hx hy hz t ht = eqb→eq (times f x y z t) 2 (under _ 8 (under _ y (under _ z (under _ 8 h z hz) y hy) x hx) t ht)
+
+  any-order : T (balanced f) → (x y z : ℕ) → x < 8 → y < 8 → z < 8 → (x ≡ y → ⊥) → (y ≡ z → ⊥) → (x ≡ z → ⊥) → Twice f x y z
+  any-order h x y z hx hy hz xy yz xz =
+      elim (decLt x y) [
+        | yes a ↦
+            elim (decLt y z) [
+              | yes b ↦ rising h x y z a b hz
+              | no b ↦
+                  elim (decLt x z) [
+                    | yes c ↦ upper x z y (rising h x z y c (omega arith) hy)
+                    | no c ↦ upper x z y (lower z x y (rising h z x y (omega arith) a hy))
+                  ]
+            ]
+        | no a ↦
+            elim (decLt x z) [
+              | yes b ↦ lower y x z (rising h y x z (omega arith) b hz)
+              | no b ↦
+                  elim (decLt y z) [
+                    | yes c ↦ lower y x z (upper y z x (rising h y z x c (omega arith) hx))
+                    | no c ↦ lower y x z (upper y z x (lower z y x (rising h z y x (omega arith) (omega arith) hx)))
+                  ]
+            ]
+      ]
+
+-- the test says it, both ways
+pub tested-balanced : (f : ℕ → ℕ) → T (balanced f) → Balanced f
+unfolding different Twice
+tested-balanced f h =
     record {
       twice = λ x y z t hx hy hz hd ht.
-          let r : Bool = below 8 (λ k. eqb (times f x y z k) 2) in
-          eqb→eq _ _ (under _ 8 (chosen (different x y z) r hd (under _ 8 (under _ 8 (under _ 8 h z hz) y hy) x hx)) t ht);
+          let last = and-yes (not (eqb x y) && not (eqb y z)) (not (eqb x z)) hd in
+          let rest = and-yes (not (eqb x y)) (not (eqb y z)) (last .0) in
+          any-order f h x y z hx hy hz (eqb-no (rest .0)) (eqb-no (rest .1)) (eqb-no (last .1)) t ht;
     }
+
+rising-different : (x y z : ℕ) → x < y → y < z → T (different x y z)
+unfolding different
+rising-different x y z hx hy =
+    rw (ne-eqb x y (λ e. absurd (omega arith)), ne-eqb y z (λ e. absurd (omega arith)), ne-eqb x z (λ e. absurd (omega arith))) tt
+
+pub balanced-tested : (f : ℕ → ℕ) → Balanced f → balanced f ≡ true
+unfolding balanced even
+balanced-tested f b =
+    below-all _ 8
+    (λ z hz. below-all _ z (λ y hy. below-all _ y (λ x hx. below-all _ 8 (λ t ht. eq-eqb _ 2 (b .twice x y z t (omega arith) (omega arith) hz (rising-different x y z hx hy) ht)))))
 
 -- only the sixteen offsets matter
 pub balanced-same : (f g : ℕ → ℕ) → ((o : ℕ) → o < 16 → f o ≡ g o) → Balanced g → Balanced f
@@ -64,30 +144,14 @@ pattern-xor x y z v w =
     rw (bit-xor v w x, bit-xor v w y, bit-xor v w z)
     (sym (joined (bit v z) (bit v y) (bit v x) (bit w z) (bit w y) (bit w x) (mod-two _) (mod-two _) (mod-two _) (mod-two _)))
 
-same-eqb : (c v t : ℕ) → eqb (c ⊕ v) t ≡ eqb v (c ⊕ t)
-same-eqb c v t =
-    elim (ℕ-discrete v (c ⊕ t)) [
-      | yes e ↦ rw (eq-eqb v (c ⊕ t) e) (eq-eqb (c ⊕ v) t (rw e (xor-cancel c t)))
-      | no e ↦ rw (ne-eqb v (c ⊕ t) e) (ne-eqb (c ⊕ v) t (λ q. e (rw (← q) (sym (xor-cancel c v)))))
-    ]
-
-count-xor : (c t : ℕ) (g : ℕ → ℕ) (i n : ℕ) → count t (listed (λ o. c ⊕ g o) i n) ≡ count (c ⊕ t) (listed g i n)
-unfolding count
-count-xor c t g i zero = refl
-count-xor c t g i (suc n) = rw (same-eqb c (g i) t, count-xor c t g (suc i) n)
-
-pattern-lt : (x y z v : ℕ) → pattern x y z v < 8
-unfolding pattern
-pattern-lt x y z v = omega arith
-
 pub balanced-xor : (c : ℕ) (f : ℕ → ℕ) → Balanced f → Balanced (λ o. c ⊕ f o)
+unfolding Twice
 balanced-xor c f b =
     record {
       twice = λ x y z t hx hy hz hd ht.
           let p : ℕ = pattern x y z c in
-          ap (λ (g : ℕ → ℕ). count t (listed g 0 16)) (fun-ext (λ o. pattern-xor x y z c (f o)))
-          ∙ count-xor p t (λ o. pattern x y z (f o)) 0 16
-          ∙ b .twice x y z (p ⊕ t) hx hy hz hd (xor-lt 3 _ _ (pattern-lt x y z c) ht);
+          moved (λ v. p ⊕ v) (λ v h. xor-cancel p v) (λ v h. xor-lt 3 p v (pattern-lt x y z c) h) f (λ o. c ⊕ f o) x y z x y z
+          (λ o. pattern-xor x y z c (f o)) (λ u hu. b .twice x y z u hx hy hz hd hu) t ht;
     }
 
 pub balanced-back : (c : ℕ) (f : ℕ → ℕ) → Balanced (λ o. c ⊕ f o) → Balanced f

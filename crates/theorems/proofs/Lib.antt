@@ -8,8 +8,8 @@ pub mod Relation
 pub mod Result
 pub mod ManyBlocks
 pub mod Balancing
+pub mod Fit
 pub mod RecordBytes
 pub mod RecordBalance
-pub mod Differing
 pub mod Sheets
 pub mod Examples

@@ -15,11 +15,13 @@ use Rattle.aes.specs.Record.{Point, block, keyed, boxed, shifted, mixed, compen
 use Rattle.aes.proofs.Listed.{table-at}
 use Rattle.masked.specs.Mask.{published, mask}
 use Rattle.theorems.specs.MaskTable.{maskAt}
-use Rattle.theorems.specs.Balance.{pattern, count, times, different, Balanced, single}
+use Rattle.theorems.specs.Balance.{times, different, Balanced, single}
 use Rattle.masked.specs.Calls.{recordMaskedOf}
+use Rattle.beside.specs.Fitness.{pattern, count, fitnessOf}
 use Rattle.theorems.proofs.AnyMasks.{maskBy}
 use Rattle.theorems.proofs.Relation.{rotating, mask-entry, maskAt-is}
-use Rattle.theorems.proofs.Balancing.{published-balanced-test, balanced-test, balanced-same, balanced-xor, balanced-back, balanced-turn}
+use Rattle.theorems.proofs.Balancing.{balanced-same, balanced-xor, balanced-back, balanced-turn}
+use Rattle.theorems.proofs.Fit.{fit-balanced, published-fit}
 use Rattle.theorems.proofs.RecordBytes.{record-byte}
 
 -- where one mask covers byte i: how far its label is from the offset
@@ -60,17 +62,16 @@ label-of (compensated r) i t h = own (compensated r) (suc r) i h (λ K. refl)
 label-of (closed r) i t h = moved (closed r) (suc r) i h (λ K. refl)
 label-of (uncovered r) i t h = absurd t
 
--- for every balanced table
-pub record-balance : (M : List ℕ) → Balanced (at M) → length M ≡ 16
-    → (w b states : List ℕ) → length w ≡ 240 → length b ≡ 16 → length states ≡ 1136
+-- for every table that the fitness test passes
+pub fit-balance : (M : List ℕ) → fitnessOf M .1 ≡ 1 → (w b states : List ℕ) → length w ≡ 240 → length b ≡ 16 → length states ≡ 1136
     → (q i : ℕ) → q < 71 → T (single (getD (points 14) q block)) → i < 16
     → Balanced (λ o. at (recordMaskedOf w b M o states .1) (16 * q + i))
-record-balance M balance lm w b states lw lb ls q i hq t hi =
+fit-balance M fit w b states lw lb ls q i hq t hi =
     let u : Label (getD (points 14) q block) i = label-of (getD (points 14) q block) i t hi in
     let c : ℕ = at (getD (plainRecord 14 w b) q []) i in
     balanced-same (λ o. at (recordMaskedOf w b M o states .1) (16 * q + i)) (λ o. c ⊕ at M ((o + u .label) % 16))
-    (λ o h. record-byte M lm w b states lw lb ls q i o hq hi (omega arith) ∙ ap (λ (x : ℕ). c ⊕ x) (u .same M o))
-    (balanced-xor c (λ o. at M ((o + u .label) % 16)) (balanced-turn (at M) balance (u .label)))
+    (λ o h. record-byte M (fit-balanced M fit .0) w b states lw lb ls q i o hq hi (omega arith) ∙ ap (λ (x : ℕ). c ⊕ x) (u .same M o))
+    (balanced-xor c (λ o. at M ((o + u .label) % 16)) (balanced-turn (at M) (fit-balanced M fit .1) (u .label)))
 
 -- computed: one mask covers each byte at 57 of the 71 points
 pub singles : List Point → ℕ
@@ -98,8 +99,7 @@ published-length = refl
 module _ (w b states : List ℕ) (lw : length w ≡ 240) (lb : length b ≡ 16) (ls : length states ≡ 1136) where
   pub published-balance : (q i : ℕ) → q < 71 → T (single (getD (points 14) q block)) → i < 16
       → Balanced (λ o. at (recordMaskedOf w b published o states .1) (16 * q + i))
-  published-balance =
-      record-balance published (balanced-test (at published) published-balanced-test) published-length w b states lw lb ls
+  published-balance = fit-balance published (ap (λ (r : ℕ × ℕ). r .1) published-fit) w b states lw lb ls
 
   mixed-byte : (o : ℕ) → o ≤ 15
       → at (recordMaskedOf w b published o states .1) (16 * 4 + 0) ≡ at (getD (plainRecord 14 w b) 4 []) 0 ⊕ at (maskAt published o (mixed 0)) 0
