@@ -223,8 +223,8 @@ uint8_t slipgrease_write_sheet(
 /* ---- Beside the engines ---- */
 
 /*
- * Tests a mask table: value 1 where its sixteen bytes are all different, else value 0. Answers reply * 256 + value; beside a
- * refusal the value is 0.
+ * Tests a mask table: value 1 where any three of the eight bit positions show each of their eight patterns in exactly two of
+ * the sixteen masks, else value 0. Answers reply * 256 + value; beside a refusal the value is 0.
  * Reads masks, 16 bytes.
  * Refusals: 5 MASKS_LENGTH.
  */

@@ -47,7 +47,7 @@ impl Masks {
         sheet
     }
 
-    /// Whether the library calls them fit.
+    /// Whether they are fit: any three bit positions show each of their eight patterns in exactly two of the masks.
     pub fn are_fit(&self) -> bool {
         slices::fitness(&self.0).expect("the length is right")
     }

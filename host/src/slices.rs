@@ -164,13 +164,15 @@ pub fn write_sheet(masks: &[u8], sheet: &mut [u8]) -> Result<(), Refusal> {
     Refusal::check(calls::write_sheet(masks, sheet))
 }
 
-/// Whether a mask table is fit: its sixteen bytes are all different.
+/// Whether a mask table is fit: any three of the eight bit positions show each of their eight patterns in exactly two of the
+/// sixteen masks.
 ///
 /// Refused: masks not 16 bytes.
 ///
 /// ```
-/// assert_eq!(slipgrease::fitness(b"0123456789abcdef"), Ok(true));
-/// assert_eq!(slipgrease::fitness(b"0123456789abcde0"), Ok(false));
+/// let from_zero_to_fifteen: [u8; 16] = std::array::from_fn(|i| i as u8);
+/// assert_eq!(slipgrease::fitness(slipgrease::Masks::PUBLISHED.as_bytes()), Ok(true));
+/// assert_eq!(slipgrease::fitness(&from_zero_to_fifteen), Ok(false));
 /// ```
 pub fn fitness(masks: &[u8]) -> Result<bool, Refusal> {
     valued(calls::fitness(masks)).map(|value| value == 1)

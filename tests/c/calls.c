@@ -60,6 +60,7 @@ static const char form_1[] = "b7f1ebaf3bf2df1c463a8060b4496fbf";
 static const char form_1_at_7[] = "d2c7dd5fcbc4e979230cb690447f59da";
 static const uint8_t masks[SLIPGREASE_MASKS_BYTES] = {
     0x00, 0x0f, 0x36, 0x39, 0x53, 0x5c, 0x65, 0x6a, 0x95, 0x9a, 0xa3, 0xac, 0xc6, 0xc9, 0xf0, 0xff};
+static const uint8_t rising[SLIPGREASE_MASKS_BYTES] = {0, 1, 2, 3, 4, 5, 6, 7, 8, 9, 10, 11, 12, 13, 14, 15};
 
 static uint8_t key[SLIPGREASE_KEY_BYTES], w[SLIPGREASE_SCHEDULE_BYTES], in[SLIPGREASE_BLOCK_BYTES], out[SLIPGREASE_BLOCK_BYTES];
 static uint8_t record[SLIPGREASE_RECORD_BYTES], sheet[SLIPGREASE_SHEET_BYTES], table[SLIPGREASE_MASKS_BYTES];
@@ -177,6 +178,7 @@ static void sheets(void)
 static void beside(void)
 {
     PACKED(fitness, SLIPGREASE_REPLY_DONE, 1, LENT(masks));
+    PACKED(fitness, SLIPGREASE_REPLY_DONE, 0, LENT(rising));
     PACKED(fitness, SLIPGREASE_REPLY_MASKS_LENGTH, 0, NONE);
     CALL(multiply, 0xc1, 0x57, 0x83);
     CALL(inverse, 0xca, 0x53);

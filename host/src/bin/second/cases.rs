@@ -96,19 +96,40 @@ fn schedule(random: &mut Random, boxes: &Boxes, wrong: bool) -> Vec<u8> {
     bytes(random, 240, wrong)
 }
 
-/// The published masks, one mask for all, sixteen different ones, two that are equal, or random.
+/// The published masks, one mask for all, sixteen different ones, two that are equal, fit ones, nearly fit ones, or random.
 fn masks(random: &mut Random) -> [u8; 16] {
     let (first, step) = (random.byte(), random.byte() | 1);
     let mut masks: [u8; 16] = std::array::from_fn(|i| first.wrapping_add(step.wrapping_mul(i as u8)));
-    match random.below(6) {
+    match random.below(9) {
         0 => return PUBLISHED,
         1 => return [0; 16],
         2 => return [first; 16],
         3 => {}
         4 => masks[random.below(16)] = masks[random.below(16)],
+        5 => masks = fit(random),
+        6 => masks = any_two_even(random),
+        7 => {
+            masks = fit(random);
+            masks[random.below(16)] ^= 1 << random.below(8);
+        }
         _ => masks = std::array::from_fn(|_| random.byte()),
     }
     masks
+}
+
+/// The published masks with their places and their bits turned, and a byte added to all.
+fn fit(random: &mut Random) -> [u8; 16] {
+    let (places, bits, added) = (random.below(16), random.below(8) as u32, random.byte());
+    let mut masks = PUBLISHED.map(|mask| mask.rotate_left(bits) ^ added);
+    masks.rotate_left(places);
+    masks
+}
+
+/// Fit masks in which one bit becomes the sum of two others: any two bits still show each of their four patterns four times.
+fn any_two_even(random: &mut Random) -> [u8; 16] {
+    let turned = random.below(8) as u32;
+    let summed = |mask: u8| mask & !1 | (mask >> 1 ^ mask >> 2) & 1;
+    fit(random).map(|mask| summed(mask).rotate_left(turned))
 }
 
 /// "MSK", version 1 and sixteen masks, damaged as asked.

@@ -1,5 +1,6 @@
 //! The edges that the scope names, one by one.
 
+use crate::masked::PUBLISHED;
 use crate::report::Tally;
 use slipgrease::calls;
 
@@ -13,7 +14,7 @@ struct Edge {
 /// Prints each edge, and counts those that are not where they should be. A spoiled expectation must be found to differ.
 pub fn compare(spoiled: bool) -> Tally {
     let mut tally = Tally::default();
-    let edges = [lengths_of_keys(), huge(), offsets_and_forms(), many_blocks(), powers(), sheets(), zero_masks()];
+    let edges = [lengths_of_keys(), huge(), offsets_and_forms(), many_blocks(), powers(), sheets(), zero_masks(), fitness()];
     for edge in edges.into_iter().flatten() {
         let expected = edge.expected ^ u16::from(spoiled);
         let same = edge.given == expected;
@@ -116,13 +117,23 @@ fn zero_masks() -> Vec<Edge> {
     calls::expand_key(&[3; 32], &mut w);
     calls::record_plain(&w, &[4; 16], &mut plain);
     let recorded = calls::record_masked(&w, &[4; 16], &[0; 16], 5, &mut masked);
-    let fitness = calls::fitness(&[0; 16]);
     vec![
         edge("reply to masks that are all 00, recorded", recorded, 0),
         edge("bytes in which that record is not the plain one", difference(&plain, &masked), 0),
-        edge("reply to their fitness test", fitness >> 8, 0),
-        edge("their fitness", fitness & 0xff, 0),
     ]
+}
+
+fn fitness() -> Vec<Edge> {
+    let rising = std::array::from_fn(|i| i as u8);
+    let mut edges = Vec::new();
+    for (masks, name, expected) in
+        [([0; 16], "masks all 00", 0), (rising, "masks 00 to 0f", 0), (PUBLISHED, "published masks", 1)]
+    {
+        let fitness = calls::fitness(&masks);
+        edges.push(edge(format!("reply to the fitness test of {name}"), fitness >> 8, 0));
+        edges.push(edge(format!("fitness of {name}"), fitness & 0xff, expected));
+    }
+    edges
 }
 
 fn difference(a: &[u8], b: &[u8]) -> u16 {

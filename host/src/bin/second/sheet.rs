@@ -5,10 +5,21 @@ pub fn written(masks: &[u8]) -> Vec<u8> {
     [b"MSK", &[0, 1][..], masks].concat()
 }
 
-/// 1 where the masks are all different, otherwise 0.
+/// 1 where any three bit positions show each of their eight patterns in exactly two of the masks, otherwise 0.
 pub fn fitness(masks: &[u8]) -> u8 {
-    let different = (0..masks.len()).all(|i| !masks[..i].contains(&masks[i]));
-    u8::from(different)
+    let triples = 0..8 * 8 * 8;
+    let even = triples.map(|n| [n % 8, n / 8 % 8, n / 64]).filter(all_differ).all(|bits| is_even(masks, bits));
+    u8::from(even)
+}
+
+fn all_differ([x, y, z]: &[u32; 3]) -> bool {
+    x != y && y != z && x != z
+}
+
+fn is_even(masks: &[u8], bits: [u32; 3]) -> bool {
+    let shown = |mask: u8| bits.map(|bit| mask & 1 << bit != 0);
+    let twice = |pattern: [bool; 3]| masks.iter().filter(|mask| shown(**mask) == pattern).count() == 2;
+    (0..8).all(|n| twice([n & 1 != 0, n & 2 != 0, n & 4 != 0]))
 }
 
 /// 0 go on, 1 caller fault, 2 data fault.

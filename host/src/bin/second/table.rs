@@ -202,7 +202,7 @@ pub const CALLS: &[Call] = &[
     },
     Call {
         name: "fitness",
-        method: "each against those before",
+        method: "each pattern by itself",
         refusals: &[5],
         library: |l| packed(calls::fitness(l.masks.lent())),
         reference: |_, l| sheet::fitness(l.masks.lent()),

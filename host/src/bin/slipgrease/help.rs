@@ -113,7 +113,9 @@ $ slipgrease sheet read 4d534b0001000f3639535c656a959aa3acc6c9f0ff
         name: "fitness",
         usage: "fitness MASKS",
         summary: "whether a mask table is fit",
-        text: "Prints 1 and the word fit where the sixteen masks are all different, and otherwise 0 and the word unfit.",
+        text: "\
+Prints 1 and the word fit where any three of the eight bit positions show each of their eight patterns in exactly two of the sixteen
+masks, and otherwise 0 and the word unfit.",
         example: "\
 $ slipgrease fitness 000f3639535c656a959aa3acc6c9f0ff
 1 fit",

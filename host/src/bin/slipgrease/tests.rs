@@ -98,6 +98,12 @@ fn blocks_are_made_in_their_order() {
     assert_eq!((out.as_str(), failed), ("", None));
 }
 
+/// They all differ, but their upper four bits are 0.
+#[test]
+fn masks_00_to_0f_are_unfit() {
+    assert_eq!(printed("fitness 000102030405060708090a0b0c0d0e0f"), "0 unfit\n");
+}
+
 /// What was wrong, where, what was expected, and the library's number, sorted by the library.
 #[test]
 fn refusals_say_what_was_wrong() {
