@@ -1,4 +1,4 @@
--- Balance: the test says it, and a turn of the offsets and a fixed byte added to all keep it.
+-- Balance: the test tells of any three bits, and a turn of the offsets and a fixed byte added to all keep it.
 -- Assumes nothing.
 use mathlib.Core.Path.{_≡_, refl, sym, ap, fun-ext, _∙_}
 use mathlib.Core.Bool.{true, not, _&&_}
@@ -74,27 +74,22 @@ module _ (f : ℕ → ℕ) where
   unfolding Twice balanced even
   rising h x y z hx hy hz t ht = eqb→eq (times f x y z t) 2 (under _ 8 (under _ y (under _ z (under _ 8 h z hz) y hy) x hx) t ht)
 
+  third : T (balanced f) → (x y z : ℕ) → x < y → y < 8 → z < 8 → (y ≡ z → ⊥) → (x ≡ z → ⊥) → Twice f x y z
+  third h x y z xy hy hz yz xz =
+      elim (decLt y z) [
+        | yes a ↦ rising h x y z xy a hz
+        | no a ↦
+            elim (decLt x z) [
+              | yes b ↦ upper x z y (rising h x z y b (omega arith) hy)
+              | no b ↦ upper x z y (lower z x y (rising h z x y (omega arith) xy hy))
+            ]
+      ]
+
   any-order : T (balanced f) → (x y z : ℕ) → x < 8 → y < 8 → z < 8 → (x ≡ y → ⊥) → (y ≡ z → ⊥) → (x ≡ z → ⊥) → Twice f x y z
   any-order h x y z hx hy hz xy yz xz =
       elim (decLt x y) [
-        | yes a ↦
-            elim (decLt y z) [
-              | yes b ↦ rising h x y z a b hz
-              | no b ↦
-                  elim (decLt x z) [
-                    | yes c ↦ upper x z y (rising h x z y c (omega arith) hy)
-                    | no c ↦ upper x z y (lower z x y (rising h z x y (omega arith) a hy))
-                  ]
-            ]
-        | no a ↦
-            elim (decLt x z) [
-              | yes b ↦ lower y x z (rising h y x z (omega arith) b hz)
-              | no b ↦
-                  elim (decLt y z) [
-                    | yes c ↦ lower y x z (upper y z x (rising h y z x c (omega arith) hx))
-                    | no c ↦ lower y x z (upper y z x (lower z y x (rising h z y x (omega arith) (omega arith) hx)))
-                  ]
-            ]
+        | yes a ↦ third h x y z a hy hz yz xz
+        | no a ↦ lower y x z (third h y x z (omega arith) hx hz xz yz)
       ]
 
 -- the test says it, both ways

@@ -22,7 +22,7 @@ pub fn published() -> [u8; 16] {
     *b"\x00\x0f\x36\x39\x53\x5c\x65\x6a\x95\x9a\xa3\xac\xc6\xc9\xf0\xff"
 }
 
-// One byte stands twice among these, and so in no fit table.
+// One byte stands twice among these, as in no fit table.
 fn unfit(block: &[u8; 16]) -> [u8; 16] {
     let mut r = *block;
     r[15] = r[0];
