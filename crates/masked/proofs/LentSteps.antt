@@ -4,7 +4,6 @@ use mathlib.Core.Path.{_≡_, refl, sym, ap, _∙_}
 use mathlib.Core.Bool.{Bool, true, false, cond, not, _&&_}
 use mathlib.Core.List.{List, [], _∷_, _++_}
 use Prim.Native.Nat.{ℕ, zero, suc, _+_, _-_, _*_, _/_, _%_, _<_, _≤_}
-use native.Mathlib.Nat.{add-zero}
 use native.Mathlib.Omega.{arith}
 use lib.Dec.{T, eqb, eqb→eq, lit≤}
 use lib.ListN.{length, getD}
@@ -90,9 +89,9 @@ pub recorded-block : {f : Point → List ℕ → List ℕ} → Sized f → {s t 
 recorded-block h l xs room et ey = recorded-so-far (lit≤ tt) l (written-block h l xs room et ey)
 
 -- labels are counted modulo 16
-mask-turn : (M : List ℕ) (o : ℕ) → mask M (o % 16) ≡ mask M o
+pub mask-turn : (M : List ℕ) (j k : ℕ) → j % 16 ≡ k % 16 → mask M j ≡ mask M k
 unfolding mask table
-mask-turn M o = table-same (maskByte M (o % 16)) (maskByte M o) 16 (λ i h. ap (at M) (omega arith))
+mask-turn M j k e = table-same (maskByte M j) (maskByte M k) 16 (λ i h. ap (at M) (omega arith))
 
 box-turn : (M : List ℕ) (j k x : ℕ) → j % 16 ≡ k % 16 → maskedBox M j x ≡ maskedBox M k x
 unfolding maskedBox
@@ -100,9 +99,9 @@ box-turn M j k x e =
     let next : (j + 1) % 16 ≡ (k + 1) % 16 = omega arith in
     rw (e, next)
 
-compensation-turn : (M : List ℕ) (o : ℕ) → compensation M (o % 16) ≡ compensation M o
+compensation-turn : (M : List ℕ) (j k : ℕ) → j % 16 ≡ k % 16 → compensation M j ≡ compensation M k
 unfolding compensation
-compensation-turn M o = rw (mask-turn M o)
+compensation-turn M j k e = rw (mask-turn M j k e)
 
 module _ {M w : List ℕ} (hM : Bytes 16 M) (hw : Bytes 240 w) (form o : ℕ) where
   mask-bytes : (j : ℕ) → Bytes 16 (mask M j)
@@ -158,12 +157,11 @@ module _ {M w : List ℕ} (hM : Bytes 16 M) (hw : Bytes 240 w) (form o : ℕ) wh
   lent-is (shifted r) t s h = refl
   lent-is (mixed r) t s h = mix-lent s h
   lent-is (compensated r) t s h =
-      let e : o + suc r ≡ o + 1 + r = omega arith in
-      ap (λ (k : List ℕ). s ⊞ k) (compensation-at M ((o + suc r) % 16) (omega arith) ∙ compensation-turn M (o + suc r) ∙ ap (compensation M) e)
+      ap (λ (k : List ℕ). s ⊞ k) (compensation-at M ((o + suc r) % 16) (omega arith) ∙ compensation-turn M ((o + suc r) % 16) (o + 1 + r) (omega arith))
   lent-is (closed r) t s h = refl
   lent-is (uncovered r) t s h =
-      let e : o + 14 ≡ o + suc r = ap (λ (k : ℕ). o + suc k) (sym (eqb→eq r 13 t)) in
-      ap (λ (m : List ℕ). s ⊞ ending form m) (mask-turn M (o + 14) ∙ ap (mask M) e)
+      let e : r ≡ 13 = eqb→eq r 13 t in
+      ap (λ (m : List ℕ). s ⊞ ending form m) (mask-turn M ((o + 14) % 16) (o + suc r) (omega arith))
 
   run-block : (s : List ℕ) (ps : List Point) → run lent s (block ∷ ps) ≡ s ∷ run lent s ps
   unfolding run steps
@@ -186,7 +184,7 @@ module _ {M w : List ℕ} (hM : Bytes 16 M) (hw : Bytes 240 w) (form o : ℕ) wh
       → run (steps w b c d o end) s (points 14) ≡ maskedRecord 14 form M o w input
   unfolding maskedRecord points wholes all-due due covered
   lent-record {input} h s b c d end es eb ec ed ee =
-      let start : s ≡ input ⊞ mask M o = es ∙ ap (λ (m : List ℕ). input ⊞ m) (mask-turn M (o + 0) ∙ rw add-zero) in
+      let start : s ≡ input ⊞ mask M o = es ∙ ap (λ (m : List ℕ). input ⊞ m) (mask-turn M ((o + 0) % 16) o (omega arith)) in
       (λ i. run (steps w (eb i) (ec i) (ed i) o (ee i)) (start i) (points 14))
       ∙ run-block (input ⊞ mask M o) (wholes 13 ++ final 13)
       ∙ ap (λ (u : List (List ℕ)). (input ⊞ mask M o) ∷ u) (run-is (wholes 13 ++ final 13) tt (input ⊞ mask M o) (add-bytes h (mask-bytes o)))

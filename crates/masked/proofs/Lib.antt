@@ -2,6 +2,7 @@ pub mod Row
 pub mod Store
 pub mod Endings
 pub mod LentSteps
+pub mod Ordered
 pub mod Checked
 pub mod Batch
 pub mod Headed

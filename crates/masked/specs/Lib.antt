@@ -1,4 +1,5 @@
 pub mod Mask
+pub mod Order
 pub mod Run
 pub mod Lent
 pub mod Calls

@@ -15,6 +15,13 @@ impl Position {
     {
         Position(i)
     }
+
+    // Which byte of a state stands there.
+    pub(crate) fn read(self) -> usize
+        ensures { λ i. ⌜ i ≡ self .0 ⌝ }
+    {
+        self.0
+    }
 }
 
 impl Round {

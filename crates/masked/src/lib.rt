@@ -5,6 +5,7 @@ mod encrypt;
 mod label;
 mod many;
 mod masks;
+mod order;
 mod record;
 mod run;
 mod sheet;

@@ -1,7 +1,7 @@
 // The steps of every masked run, one for each kind of recorded point; both keys of the last round are added by one. Each takes a
 // state as it is covered, gives the next and writes it to the part that it was lent. `cover` alone takes the bare block.
 ghost use mathlib.Core.Path.{_≡_};
-ghost use Prim.Native.Nat.{_+_, _<_};
+ghost use Prim.Native.Nat.{_<_};
 ghost use lib.ListN.{length};
 ghost use Rattle.aes.specs.State.{shiftRows};
 ghost use Rattle.aes.specs.Key.{roundKey};
@@ -10,10 +10,9 @@ ghost use Rattle.masked.specs.Mask.{_⊞_};
 ghost use Rattle.masked.specs.Lent.{boxedBy, sixteen};
 use crate::blocks::keep;
 use crate::blocks::sixteen;
-use crate::boxes::entry;
 use crate::label::Label;
-use crate::label::Position;
 use crate::label::Round;
+use crate::order::answers;
 use aes::add;
 
 pub(crate) fn cover(s: [u8; 16], mask: [u8; 16], part: &mut [u8]) -> [u8; 16]
@@ -35,13 +34,7 @@ pub(crate) fn boxes(s: [u8; 16], boxes: &[u8; 4096], l: Label, part: &mut [u8]) 
     requires { ⌜ (l .0 < 16) × (length (now part) ≡ 16) ⌝ }
     ensures { λ t. ⌜ (t ≡ boxedBy (now (boxes .entry)) (l .0) s) × (now (part .exit) ≡ t) ⌝ }
 {
-    let mut t = [0u8; 16];
-    let mut i = 0;
-    while i < 16 {
-        t[i] = entry(boxes, l.over(Position::at(i)), s[i]);
-        i += 1;
-    }
-    keep(t, part)
+    keep(answers(s, boxes, l), part)
 }
 
 pub(crate) fn shift_rows(s: [u8; 16], part: &mut [u8]) -> [u8; 16]
