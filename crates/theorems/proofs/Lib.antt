@@ -11,5 +11,6 @@ pub mod Balancing
 pub mod Fit
 pub mod RecordBytes
 pub mod RecordBalance
+pub mod BoxOrder
 pub mod Sheets
 pub mod Examples

@@ -40,7 +40,7 @@ bytes-at f h (p ∷ ps) s (suc q) i hq hi =
     let e : 16 * suc q + i ≡ length (f p s) + (16 * q + i) = rw (h p s) (omega arith) in
     rw e (getD-append-add (f p s) (bytes (run f (f p s) ps)) (16 * q + i) 0 ∙ bytes-at f h ps (f p s) q i (omega arith) hi)
 
-add-at : (a b : List ℕ) (k : ℕ) → k < 16 → at (a ⊞ b) k ≡ at a k ⊕ at b k
+pub add-at : (a b : List ℕ) (k : ℕ) → k < 16 → at (a ⊞ b) k ≡ at a k ⊕ at b k
 unfolding addRoundKey table
 add-at a b = table-at (λ i. at a i ⊕ at b i) 16
 
@@ -49,11 +49,15 @@ unfolding points wholes
 seventy-one = refl
 
 -- at the call
-pub record-byte : (M : List ℕ) → length M ≡ 16 → (w b states : List ℕ) → length w ≡ 240 → length b ≡ 16 → length states ≡ 1136
-    → (q i o : ℕ) → q < 71 → i < 16 → o ≤ 15
-    → at (recordMaskedOf w b M o states .1) (16 * q + i) ≡ at (getD (plainRecord 14 w b) q []) i ⊕ at (maskAt M o (getD (points 14) q block)) i
-unfolding maskedRecord
-record-byte M lm w b states lw lb ls q i o hq hi ho =
-    let h : q < length (points 14) = rw seventy-one hq in
-    simp (eq-eqb (length w) 240 lw, eq-eqb (length b) 16 lb, eq-eqb (length M) 16 lm, le-leb o 15 ho, eq-eqb (length states) 1136 ls)
-    (bytes-at (covered 0 M o w) (covered-size 0 M o w) (points 14) b q i h hi ∙ rw (relation-at M o w 14 b q h) (add-at _ _ i hi))
+module _ (M : List ℕ) (lm : length M ≡ 16) (w b states : List ℕ) (lw : length w ≡ 240) (lb : length b ≡ 16) (ls : length states ≡ 1136) where
+  pub record-state : (q i o : ℕ) → q < 71 → i < 16 → o ≤ 15
+      → at (recordMaskedOf w b M o states .1) (16 * q + i) ≡ at (getD (maskedRecord 14 0 M o w b) q []) i
+  unfolding maskedRecord
+  record-state q i o hq hi ho =
+      simp (eq-eqb (length w) 240 lw, eq-eqb (length b) 16 lb, eq-eqb (length M) 16 lm, le-leb o 15 ho, eq-eqb (length states) 1136 ls)
+      (bytes-at (covered 0 M o w) (covered-size 0 M o w) (points 14) b q i (rw seventy-one hq) hi)
+
+  pub record-byte : (q i o : ℕ) → q < 71 → i < 16 → o ≤ 15
+      → at (recordMaskedOf w b M o states .1) (16 * q + i) ≡ at (getD (plainRecord 14 w b) q []) i ⊕ at (maskAt M o (getD (points 14) q block)) i
+  record-byte q i o hq hi ho =
+      record-state q i o hq hi ho ∙ rw (relation-at M o w 14 b q (rw seventy-one hq)) (add-at _ _ i hi)

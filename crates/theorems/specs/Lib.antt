@@ -1,2 +1,3 @@
 pub mod MaskTable
+pub mod Neighbours
 pub mod Balance

@@ -1,0 +1,111 @@
+-- Why even boxes go first: what a box gives, xored with what the next one called takes, stays covered; in natural order it does
+-- not. It is said of the states of a masked run, and of those that record_masked writes.
+-- Assumes nothing.
+use mathlib.Core.Path.{_≡_, refl, sym, ap, _∙_}
+use mathlib.Core.List.{List, [], _∷_, _++_, append-assoc}
+use Prim.Native.Nat.{ℕ, zero, suc, _+_, _-_, _*_, _%_, _≤_, _<_}
+use native.Mathlib.Omega.{arith}
+use native.Mathlib.Decide.{ℕ-discrete}
+use lib.ListN.{length, getD, drop, length-append, List·getD-append}
+use lib.Seq.{getD-append-add, getD-take, getD-drop}
+use Rattle.aes.specs.Byte.{_⊕_, table}
+use Rattle.aes.specs.State.{at}
+use Rattle.aes.specs.Record.{Point, block, keyed, boxed, whole, final, wholes, points, cipherAt}
+use Rattle.aes.proofs.Xor.{sums, xor-self}
+use Rattle.aes.proofs.Listed.{table-at}
+use Rattle.masked.specs.Mask.{_⊞_, published, maskByte}
+use Rattle.masked.specs.Order.{boxOrder, natural, between}
+use Rattle.masked.specs.Run.{maskedRecord}
+use Rattle.masked.specs.Calls.{blockAt, recordMaskedOf}
+use Rattle.masked.proofs.Ordered.{order-below, lucky}
+use Rattle.theorems.specs.MaskTable.{maskAt}
+use Rattle.theorems.specs.Neighbours.{betweenStates, betweenBare, betweenMasks}
+use Rattle.theorems.proofs.AnyMasks.{maskBy}
+use Rattle.theorems.proofs.Relation.{maskAt-is, mask-entry, relation-form-at}
+use Rattle.theorems.proofs.RecordBytes.{add-at, record-state}
+
+-- the points of round r: state 5 r + 1 is that after its key, and the next that after its boxes
+wholes-length : (n : ℕ) → length (wholes n) ≡ 5 * n
+unfolding wholes
+wholes-length zero = refl
+wholes-length (suc n) = length-append (wholes n) (whole n) ∙ omega (arith, wholes-length n)
+
+abbrev begun : ℕ → List Point → List Point
+begun r ps = keyed r ∷ boxed r ∷ ps
+
+round-here : (n r i : ℕ) (ps : List Point) → r ≡ n → i < 2 → getD (wholes n ++ begun n ps) (5 * r + i) block ≡ getD (begun r []) i block
+round-here n r i ps e h =
+    let there : 5 * r + i ≡ length (wholes n) + i = rw (wholes-length n, e) in
+    rw there (getD-append-add (wholes n) (begun n ps) i block ∙ List·getD-append (begun n []) ps block i h ∙ ap (λ (m : ℕ). getD (begun m []) i block) (sym e))
+
+round-in : (n r i : ℕ) (ps : List Point) → r ≤ n → i < 2 → getD (wholes n ++ begun n ps) (5 * r + i) block ≡ getD (begun r []) i block
+unfolding wholes
+round-in zero r i ps le h = round-here 0 r i ps (omega arith) h
+round-in (suc n) r i ps le h =
+    elim (ℕ-discrete r (suc n)) [
+      | yes e ↦ round-here (suc n) r i ps e h
+      | no e ↦ rw (append-assoc (wholes n) (whole n) (begun (suc n) ps)) (round-in n r i _ (omega arith) h)
+    ]
+
+round-at : (nr r i q : ℕ) → r < nr → i < 2 → q ≡ suc (5 * r + i) → getD (points nr) q block ≡ getD (begun r []) i block
+unfolding points
+round-at nr r i q lt h e = rw e (round-in (nr - 1) r i _ (omega arith) h)
+
+round-within : (nr r : ℕ) → r < nr → 5 * r + 2 < length (points nr)
+unfolding points
+round-within nr r lt = rw (length-append (wholes (nr - 1)) (final (nr - 1)), wholes-length (nr - 1)) (omega arith)
+
+-- byte i of state q of a record
+block-at : (xs : List ℕ) (q i : ℕ) → i < 16 → at (blockAt q xs) i ≡ at xs (16 * q + i)
+block-at xs q i h = getD-take 16 (drop (16 * q) xs) i 0 h ∙ getD-drop (16 * q) xs i 0
+
+-- Any order of the boxes, any masks.
+module _ (order : List ℕ) (positions : (k : ℕ) → k < 16 → at order k < 16) where
+  between-add : (s m t n : List ℕ) (k : ℕ) → k < 15 → between order (s ⊞ m) (t ⊞ n) k ≡ between order s t k ⊕ between order m n k
+  between-add s m t n k h =
+      rw (add-at t n (at order k) (positions k (omega arith)), add-at s m (at order (k + 1)) (positions (k + 1) (omega arith))) (simp sums)
+
+  module _ (M : List ℕ) (o : ℕ) (w b : List ℕ) (r k : ℕ) (hk : k < 15) where
+    -- in a run of any number of rounds and in either form: the xor of the two bytes of CIPHER, under the xor of their masks
+    pub between-states : (nr form : ℕ) → r < nr
+        → betweenStates order (maskedRecord nr form M o w b) r k ≡ betweenBare order w b r k ⊕ betweenMasks order M o r k
+    unfolding maskBy
+    between-states nr form hr =
+        let within = round-within nr r hr in
+        let taken : getD (maskedRecord nr form M o w b) (5 * r + 1) [] ≡ cipherAt w b (keyed r) ⊞ maskAt M o (keyed r) =
+        relation-form-at M o w nr b form (5 * r + 1) (omega arith) ∙ rw (round-at nr r 0 (5 * r + 1) hr (omega arith) (omega arith), maskAt-is M o (keyed r)) in
+        let given : getD (maskedRecord nr form M o w b) (5 * r + 2) [] ≡ cipherAt w b (boxed r) ⊞ maskAt M o (boxed r) =
+        relation-form-at M o w nr b form (5 * r + 2) within ∙ rw (round-at nr r 1 (5 * r + 2) hr (omega arith) (omega arith), maskAt-is M o (boxed r)) in
+        rw (taken, given) (between-add _ _ _ _ k hk)
+
+    -- the same of the states that record_masked writes
+    pub between-recorded : length M ≡ 16 → (states : List ℕ) → length w ≡ 240 → length b ≡ 16 → length states ≡ 1136 → o ≤ 15 → r < 14
+        → between order (blockAt (5 * r + 1) (recordMaskedOf w b M o states .1)) (blockAt (5 * r + 2) (recordMaskedOf w b M o states .1)) k
+        ≡ betweenBare order w b r k ⊕ betweenMasks order M o r k
+    between-recorded lm states lw lb ls ho hr =
+        let byte : (q i : ℕ) → q < 71 → i < 16 → at (blockAt q (recordMaskedOf w b M o states .1)) i ≡ at (getD (maskedRecord 14 0 M o w b) q []) i =
+        λ q i hq hi. block-at (recordMaskedOf w b M o states .1) q i hi ∙ record-state M lm w b states lw lb ls q i o hq hi ho in
+        (λ j. byte (5 * r + 2) (at order k) (omega arith) (positions k (omega arith)) j ⊕ byte (5 * r + 1) (at order (k + 1)) (omega arith) (positions (k + 1) (omega arith)) j)
+        ∙ between-states 14 0 hr
+
+natural-at : (k : ℕ) → k < 16 → at natural k ≡ k
+unfolding table
+natural-at = table-at (λ i. i) 16
+
+module _ (o : ℕ) (w b : List ℕ) (r k : ℕ) (hk : k < 15) (nr form : ℕ) (hr : r < nr) where
+  -- in the order that every masked run reads, with the published masks: that mask is never 00
+  pub even-first : (betweenStates boxOrder (maskedRecord nr form published o w b) r k ≡ betweenBare boxOrder w b r k ⊕ betweenMasks boxOrder published o r k)
+      × (betweenMasks boxOrder published o r k ≡ 0 → ⊥)
+  unfolding maskAt
+  even-first = (between-states boxOrder order-below published o w b r k hk nr form hr, lucky (o + r) k hk)
+
+  -- in natural order, whatever the masks are: it is always 00
+  pub natural-bare : (M : List ℕ) → (betweenStates natural (maskedRecord nr form M o w b) r k ≡ betweenBare natural w b r k ⊕ betweenMasks natural M o r k)
+      × (betweenMasks natural M o r k ≡ 0)
+  unfolding maskAt
+  natural-bare M =
+      let same : (o + r + 1 + k) % 16 ≡ (o + r + (k + 1)) % 16 = omega arith in (
+        between-states natural (λ i h. rw (natural-at i h) h) M o w b r k hk nr form hr,
+        rw (natural-at k (omega arith), natural-at (k + 1) (omega arith), mask-entry M (o + r + 1) k (omega arith), mask-entry M (o + r) (k + 1) (omega arith), same)
+            (xor-self (maskByte M (o + r) (k + 1))),
+      )
