@@ -71,11 +71,14 @@ static inline void cover(uint8_t state[BLOCK], const uint8_t masks[MASKS], size_
     add(state, covering);
 }
 
-// Byte i by box label + i.
+// Byte i by box label + i, even positions first.
 static inline void substitute_covered(uint8_t state[BLOCK], const uint8_t boxes[MASKS][256], size_t label)
 {
-    for (size_t i = 0; i < BLOCK; i++)
+    static const uint8_t order[BLOCK] = {0, 2, 4, 6, 8, 10, 12, 14, 1, 3, 5, 7, 9, 11, 13, 15};
+    for (size_t k = 0; k < BLOCK; k++) {
+        size_t i = order[k];
         state[i] = boxes[(label + i) % MASKS][state[i]];
+    }
 }
 
 // The finished block alone, in either form.

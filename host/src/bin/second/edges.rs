@@ -14,7 +14,8 @@ struct Edge {
 /// Prints each edge, and counts those that are not where they should be. A spoiled expectation must be found to differ.
 pub fn compare(spoiled: bool) -> Tally {
     let mut tally = Tally::default();
-    let edges = [lengths_of_keys(), huge(), offsets_and_forms(), many_blocks(), powers(), sheets(), zero_masks(), fitness()];
+    let edges =
+        [lengths_of_keys(), huge(), offsets_and_forms(), many_blocks(), powers(), sheets(), zero_masks(), fitness(), box_order()];
     for edge in edges.into_iter().flatten() {
         let expected = edge.expected ^ u16::from(spoiled);
         let same = edge.given == expected;
@@ -134,6 +135,31 @@ fn fitness() -> Vec<Edge> {
         edges.push(edge(format!("fitness of {name}"), fitness & 0xff, expected));
     }
     edges
+}
+
+/// Of the records at all offsets: where what a box gives, xored with what the next one called takes, is the xor of the two bare
+/// bytes. There are sixteen offsets, fourteen rounds and fifteen pairs of neighbours in a round.
+fn box_order() -> Vec<Edge> {
+    let even_first: [usize; 16] = std::array::from_fn(|k| 2 * k % 16 + k / 8);
+    let natural: [usize; 16] = std::array::from_fn(|k| k);
+    [(even_first, "even boxes first", 0), (natural, "boxes in natural order", 16 * 14 * 15)]
+        .map(|(order, name, expected)| edge(format!("pairs left bare, {name}"), pairs_left_bare(&order), expected))
+        .into()
+}
+
+fn pairs_left_bare(order: &[usize; 16]) -> u16 {
+    let (mut w, mut plain, mut masked) = ([0; 240], [1; 1136], [2; 1136]);
+    calls::expand_key(&[5; 32], &mut w);
+    calls::record_plain(&w, &[6; 16], &mut plain);
+    let mut bare = 0;
+    for offset in 0..16 {
+        calls::record_masked(&w, &[6; 16], &PUBLISHED, offset, &mut masked);
+        for keyed in (0..14).map(|round| 16 * (5 * round + 1)) {
+            let between = |record: &[u8], pair: &[usize]| record[keyed + 16 + pair[0]] ^ record[keyed + pair[1]];
+            bare += order.windows(2).filter(|pair| between(&masked, pair) == between(&plain, pair)).count();
+        }
+    }
+    bare as u16
 }
 
 fn difference(a: &[u8], b: &[u8]) -> u16 {
