@@ -21,7 +21,7 @@ use Rattle.masked.proofs.Ordered.{order-below, lucky}
 use Rattle.theorems.specs.MaskTable.{maskAt}
 use Rattle.theorems.specs.Neighbours.{betweenStates, betweenBare, betweenMasks}
 use Rattle.theorems.proofs.AnyMasks.{maskBy}
-use Rattle.theorems.proofs.Relation.{maskAt-is, mask-entry, relation-form-at}
+use Rattle.theorems.proofs.Relation.{plain-at, maskAt-is, mask-entry, relation-form-at}
 use Rattle.theorems.proofs.RecordBytes.{add-at, record-state}
 
 -- the points of round r: state 5 r + 1 is that after its key, and the next that after its boxes
@@ -73,9 +73,11 @@ module _ (order : List ℕ) (positions : (k : ℕ) → k < 16 → at order k < 1
     between-states nr form hr =
         let within = round-within nr r hr in
         let taken : getD (maskedRecord nr form M o w b) (5 * r + 1) [] ≡ cipherAt w b (keyed r) ⊞ maskAt M o (keyed r) =
-        relation-form-at M o w nr b form (5 * r + 1) (omega arith) ∙ rw (round-at nr r 0 (5 * r + 1) hr (omega arith) (omega arith), maskAt-is M o (keyed r)) in
+        relation-form-at M o w nr b form (5 * r + 1) (omega arith)
+        ∙ rw (plain-at w b nr (5 * r + 1) (omega arith), round-at nr r 0 (5 * r + 1) hr (omega arith) (omega arith), maskAt-is M o (keyed r)) in
         let given : getD (maskedRecord nr form M o w b) (5 * r + 2) [] ≡ cipherAt w b (boxed r) ⊞ maskAt M o (boxed r) =
-        relation-form-at M o w nr b form (5 * r + 2) within ∙ rw (round-at nr r 1 (5 * r + 2) hr (omega arith) (omega arith), maskAt-is M o (boxed r)) in
+        relation-form-at M o w nr b form (5 * r + 2) within
+        ∙ rw (plain-at w b nr (5 * r + 2) within, round-at nr r 1 (5 * r + 2) hr (omega arith) (omega arith), maskAt-is M o (boxed r)) in
         rw (taken, given) (between-add _ _ _ _ k hk)
 
     -- the same of the states that record_masked writes

@@ -18,6 +18,9 @@ use Rattle.theorems.specs.MaskTable.{maskAt, summed}
 use Rattle.theorems.proofs.Cover.{at-summed, map-at}
 use Rattle.theorems.proofs.AnyMasks.{coveredBy, left, maskBy, relation-any}
 
+pub plain-at : (w b : List ℕ) (nr q : ℕ) → q < length (points nr) → getD (plainRecord nr w b) q [] ≡ cipherAt w b (getD (points nr) q block)
+plain-at w b nr q h = rw (record-is w b nr) (map-at (cipherAt w b) (points nr) q block h)
+
 -- The masks of a run at offset o over the table M.
 abbrev pub rotating : List ℕ → ℕ → ℕ → List ℕ
 rotating M o r = mask M (o + r)
@@ -81,21 +84,16 @@ module _ (M : List ℕ) (o : ℕ) where
         relation-form 0 w nr b
         ∙ ap (λ (f : Point → List ℕ). summed (plainRecord nr w b) (map f (points nr))) (fun-ext (λ p. sym (maskAt-is p)))
 
-    -- so state q is plain state q under the mask of point q, and that of CIPHER, in either form
+    -- so state q is plain state q under the mask of point q, in either form; and that of CIPHER
+    pub relation-form-at : (form q : ℕ) → q < length (points nr)
+        → getD (maskedRecord nr form M o w b) q [] ≡ getD (plainRecord nr w b) q [] ⊞ maskBy form (rotating M o) (getD (points nr) q block)
+    unfolding plainRecord
+    relation-form-at form q h = rw (relation-form form w nr b) (at-summed (plain w) (maskBy form (rotating M o)) block (points nr) b q h)
+
     pub relation-at : (q : ℕ) → q < length (points nr)
         → getD (maskedRecord nr 0 M o w b) q [] ≡ getD (plainRecord nr w b) q [] ⊞ maskAt M o (getD (points nr) q block)
-    unfolding plainRecord
-    relation-at q h = rw relation (at-summed (plain w) (maskAt M o) block (points nr) b q h)
-
-    plain-at : (q : ℕ) → q < length (points nr) → getD (plainRecord nr w b) q [] ≡ cipherAt w b (getD (points nr) q block)
-    plain-at q h = rw (record-is w b nr) (map-at (cipherAt w b) (points nr) q block h)
-
-    pub relation-form-at : (form q : ℕ) → q < length (points nr)
-        → getD (maskedRecord nr form M o w b) q [] ≡ cipherAt w b (getD (points nr) q block) ⊞ maskBy form (rotating M o) (getD (points nr) q block)
-    unfolding plainRecord
-    relation-form-at form q h =
-        rw (relation-form form w nr b, ← plain-at q h) (at-summed (plain w) (maskBy form (rotating M o)) block (points nr) b q h)
+    relation-at q h = relation-form-at 0 q h ∙ rw (maskAt-is (getD (points nr) q block))
 
     pub relation-cipher : (q : ℕ) → q < length (points nr)
         → getD (maskedRecord nr 0 M o w b) q [] ≡ cipherAt w b (getD (points nr) q block) ⊞ maskAt M o (getD (points nr) q block)
-    relation-cipher q h = relation-form-at 0 q h ∙ rw (maskAt-is (getD (points nr) q block))
+    relation-cipher q h = relation-at q h ∙ rw (plain-at w b nr q h)
