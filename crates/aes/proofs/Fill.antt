@@ -29,10 +29,6 @@ filled-more {f} {n} {i} {r} {v} p l e = record { room = length-set r i v ∙ p .
           | no q ↦ let e′ : k ≡ i = omega arith in rw e′ (getD-set-same r i v 0 (omega arith) ∙ e)
         ]
 
--- the same, where the next index is written otherwise
-pub filled-to : {f : ℕ → ℕ} {n i : ℕ} {r : List ℕ} {v : ℕ} → Filled f n i r → i < n → v ≡ f i → (k : ℕ) → k ≡ i + 1 → Filled f n k (set r i v)
-filled-to p l e k same = rw same (filled-more p l e)
-
 pub filled-all : {f : ℕ → ℕ} {n i : ℕ} {r : List ℕ} → Filled f n i r → n ≤ i → r ≡ listed f 0 n
 unfolding table
 filled-all {f} {n} {i} {r} p h =

@@ -6,6 +6,7 @@ pub mod FieldLaws
 pub mod Powers
 pub mod Inverses
 pub mod Boxes
+pub mod Words
 pub mod Columns
 pub mod Given
 pub mod Steps

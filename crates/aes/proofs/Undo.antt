@@ -2,7 +2,7 @@
 -- by its inverse.
 -- Assumes nothing.
 use mathlib.Core.Path.{_≡_, refl, sym, _∙_}
-use mathlib.Core.List.{List}
+use mathlib.Core.List.{List, _++_}
 use Prim.Native.Nat.{ℕ, _+_, _*_, _/_, _%_, _<_}
 use native.Mathlib.Omega.{arith}
 use native.Mathlib.Decide.{decLt}
@@ -12,12 +12,13 @@ use Rattle.aes.specs.Byte.{_⊕_, table}
 use Rattle.aes.specs.Field.{xTimes, times, _•_}
 use Rattle.aes.specs.Box.{sBox}
 use Rattle.aes.specs.State.{at, cell, ahead, behind, state, square, dot, turned, subBytes, shiftRows, invShiftRows, mixColumns, invMixColumns, addRoundKey, Bytes}
-use Rattle.aes.specs.Key.{roundKey}
+use Rattle.aes.specs.Key.{wordAt, roundKey}
+use Rattle.aes.specs.Word.{product}
 use Rattle.aes.proofs.Xor.{sums, xor-byte}
 use Rattle.aes.proofs.Listed.{table-at}
 use Rattle.aes.proofs.Fill.{filled-all}
 use Rattle.aes.proofs.Boxes.{sBox-byte}
-use Rattle.aes.proofs.Columns.{dot-xor, dot-dot, dot-byte, dot-one}
+use Rattle.aes.proofs.Columns.{dot-xor, dot-byte, dot-one, product-product}
 
 -- sixteen bytes are the state of them
 pub state-at : (s : List ℕ) → length s ≡ 16 → state (at s) ≡ s
@@ -105,18 +106,18 @@ pub shift-inv-shift : {s : List ℕ} → Bytes 16 s → shiftRows (invShiftRows 
 unfolding shiftRows invShiftRows
 shift-inv-shift {s} h = state-at s (h .size)
 
--- one matrix after another is their product
-module _ (k0 k1 k2 k3 l0 l1 l2 l3 : ℕ) (hk0 : k0 < 256) (hk1 : k1 < 256) (hk2 : k2 < 256) (hk3 : k3 < 256) (hl0 : l0 < 256)
-    (hl1 : l1 < 256) (hl2 : l2 < 256) (hl3 : l3 < 256) where
-  turned-turned : (m0 m1 m2 m3 : ℕ) → dot k0 k1 k2 k3 l0 l3 l2 l1 ≡ m0 → dot k0 k1 k2 k3 l1 l0 l3 l2 ≡ m1
-      → dot k0 k1 k2 k3 l2 l1 l0 l3 ≡ m2 → dot k0 k1 k2 k3 l3 l2 l1 l0 ≡ m3
-      → (s : List ℕ) → turned k0 k1 k2 k3 (turned l0 l1 l2 l3 s) ≡ turned m0 m1 m2 m3 s
-  turned-turned m0 m1 m2 m3 e0 e1 e2 e3 s = simp (dot-dot, e0, e1, e2, e3)
+-- one matrix after another, in every column
+turned-turned : (k0 k1 k2 k3 l0 l1 l2 l3 m0 m1 m2 m3 : ℕ)
+    → ((a : List ℕ) → product k0 k1 k2 k3 (product l0 l1 l2 l3 a) ≡ product m0 m1 m2 m3 a)
+    → (s : List ℕ) → turned k0 k1 k2 k3 (turned l0 l1 l2 l3 s) ≡ turned m0 m1 m2 m3 s
+unfolding product
+turned-turned k0 k1 k2 k3 l0 l1 l2 l3 m0 m1 m2 m3 each s =
+    λ i. each (wordAt s 0) i ++ each (wordAt s 1) i ++ each (wordAt s 2) i ++ each (wordAt s 3) i
 
 turned-one : {s : List ℕ} → Bytes 16 s → turned 1 0 0 0 s ≡ s
 turned-one {s} h = simp (dot-one, h .byte) (state-at s (h .size))
 
--- the coefficients of INVMIXCOLUMNS times MIXCOLUMNS, and of what MIXCOLUMNS makes INVMIXCOLUMNS of
+-- the coefficients of INVMIXCOLUMNS times MIXCOLUMNS
 ones : (dot 14 11 13 9 2 1 1 3 ≡ 1) × (dot 14 11 13 9 3 2 1 1 ≡ 0) × (dot 14 11 13 9 1 3 2 1 ≡ 0) × (dot 14 11 13 9 1 1 3 2 ≡ 0)
 unfolding dot _•_ times xTimes
 ones = (refl, refl, refl, refl)
@@ -125,26 +126,16 @@ ones-back : (dot 2 3 1 1 14 9 13 11 ≡ 1) × (dot 2 3 1 1 11 14 9 13 ≡ 0) × 
 unfolding dot _•_ times xTimes
 ones-back = (refl, refl, refl, refl)
 
-spread : (dot 2 3 1 1 5 0 4 0 ≡ 14) × (dot 2 3 1 1 0 5 0 4 ≡ 11) × (dot 2 3 1 1 4 0 5 0 ≡ 13) × (dot 2 3 1 1 0 4 0 5 ≡ 9)
-unfolding dot _•_ times xTimes
-spread = (refl, refl, refl, refl)
-
 pub inv-mix-mix : {s : List ℕ} → Bytes 16 s → invMixColumns (mixColumns s) ≡ s
 unfolding mixColumns invMixColumns
 inv-mix-mix {s} h =
-    turned-turned 14 11 13 9 2 3 1 1 (lit< tt) (lit< tt) (lit< tt) (lit< tt) (lit< tt) (lit< tt) (lit< tt) (lit< tt)
-    1 0 0 0 (ones .0) (ones .1) (ones .2) (ones .3) s
+    turned-turned 14 11 13 9 2 3 1 1 1 0 0 0
+    (product-product 14 11 13 9 2 3 1 1 (lit< tt) (lit< tt) (lit< tt) (lit< tt) (lit< tt) (lit< tt) (lit< tt) (lit< tt) 1 0 0 0 (ones .0) (ones .1) (ones .2) (ones .3)) s
     ∙ turned-one h
 
 pub mix-inv-mix : {s : List ℕ} → Bytes 16 s → mixColumns (invMixColumns s) ≡ s
 unfolding mixColumns invMixColumns
 mix-inv-mix {s} h =
-    turned-turned 2 3 1 1 14 11 13 9 (lit< tt) (lit< tt) (lit< tt) (lit< tt) (lit< tt) (lit< tt) (lit< tt) (lit< tt)
-    1 0 0 0 (ones-back .0) (ones-back .1) (ones-back .2) (ones-back .3) s
+    turned-turned 2 3 1 1 14 11 13 9 1 0 0 0
+    (product-product 2 3 1 1 14 11 13 9 (lit< tt) (lit< tt) (lit< tt) (lit< tt) (lit< tt) (lit< tt) (lit< tt) (lit< tt) 1 0 0 0 (ones-back .0) (ones-back .1) (ones-back .2) (ones-back .3)) s
     ∙ turned-one h
-
-pub mix-spread : (s : List ℕ) → mixColumns (turned 5 0 4 0 s) ≡ invMixColumns s
-unfolding mixColumns invMixColumns
-mix-spread =
-    turned-turned 2 3 1 1 5 0 4 0 (lit< tt) (lit< tt) (lit< tt) (lit< tt) (lit< tt) (lit< tt) (lit< tt) (lit< tt)
-    14 11 13 9 (spread .0) (spread .1) (spread .2) (spread .3)

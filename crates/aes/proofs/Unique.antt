@@ -16,7 +16,6 @@ use Rattle.aes.proofs.record.record_plain.Reads as record-plain
 use Rattle.aes.proofs.state.add.Reads as add
 use Rattle.aes.proofs.state.mix_columns.Reads as mix-columns
 use Rattle.aes.proofs.state.shift_rows.Reads as shift-rows
-use Rattle.aes.proofs.tables.doubles.Reads as doubles
 use Rattle.aes.proofs.tables.entry.Reads as entry
 use Rattle.aes.proofs.tables.inv_sbox.Reads as inv-sbox
 use Rattle.aes.proofs.tables.logarithms.Reads as logarithms
@@ -58,9 +57,6 @@ sbox-unique κs args exit x y p q = p ∙ sym q
 
 pub inv-sbox-unique : Unique inv-sbox.Post
 inv-sbox-unique κs args exit x y p q = p ∙ sym q
-
-pub doubles-unique : Unique doubles.Post
-doubles-unique κs args exit x y p q = p ∙ sym q
 
 pub entry-unique : Unique entry.Post
 entry-unique κs args exit x y p q = p ∙ sym q

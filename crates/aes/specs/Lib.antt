@@ -4,6 +4,7 @@ pub mod Box
 pub mod State
 pub mod Lent
 pub mod Key
+pub mod Word
 pub mod Cipher
 pub mod Record
 pub mod Held

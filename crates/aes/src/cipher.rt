@@ -3,7 +3,6 @@ ghost use mathlib.Core.Path.{_≡_};
 ghost use Prim.Native.Nat.{_<_};
 ghost use lib.ListN.{length};
 ghost use Rattle.aes.specs.Byte.{table};
-ghost use Rattle.aes.specs.Field.{xTimes};
 ghost use Rattle.aes.specs.Box.{sBox, invSBox};
 ghost use Rattle.aes.specs.State.{subBytes, invSubBytes, shiftRows, invShiftRows, mixColumns, invMixColumns, addRoundKey};
 ghost use Rattle.aes.specs.Key.{roundKey};
@@ -12,12 +11,12 @@ ghost use Rattle.aes.specs.Calls.{blockOf, encryptOf, decryptOf};
 use crate::reply;
 use crate::state::add;
 use crate::state::block;
+use crate::state::inv_mix_columns;
 use crate::state::inv_shift_rows;
 use crate::state::mix_columns;
 use crate::state::put;
 use crate::state::round_key;
 use crate::state::shift_rows;
-use crate::state::spread_columns;
 use crate::state::substitute;
 use crate::tables;
 
@@ -64,12 +63,11 @@ fn encrypted(input: [u8; 16], w: &[u8]) -> [u8; 16]
     ensures { λ r. ⌜ r ≡ cipher 14 (now (w .entry)) input ⌝ }
 {
     let sbox = tables::sbox();
-    let doubles = tables::doubles();
     let mut s = add(input, round_key(w, 0));
     let mut r = 0;
     while r < 13 {
         r += 1;
-        let t = round(s, w, r, &sbox, &doubles);
+        let t = round(s, w, r, &sbox);
         s = t;
     }
     add(sub_shift(s, &sbox), round_key(w, 14))
@@ -80,30 +78,29 @@ fn decrypted(input: [u8; 16], w: &[u8]) -> [u8; 16]
     ensures { λ r. ⌜ r ≡ invCipher 14 (now (w .entry)) input ⌝ }
 {
     let inv_sbox = tables::inv_sbox();
-    let doubles = tables::doubles();
     let mut s = add(input, round_key(w, 14));
     let mut r = 13;
     while 0 < r {
-        let t = inv_round(s, w, r, &inv_sbox, &doubles);
+        let t = inv_round(s, w, r, &inv_sbox);
         s = t;
         r -= 1;
     }
     add(inv_shift_sub(s, &inv_sbox), round_key(w, 0))
 }
 
-fn round(s: [u8; 16], w: &[u8], r: usize, sbox: &[u8; 256], doubles: &[u8; 256]) -> [u8; 16]
-    requires { ⌜ (r < 15) × (length (now w) ≡ 240) × (now sbox ≡ table sBox 256) × (now doubles ≡ table xTimes 256) ⌝ }
+fn round(s: [u8; 16], w: &[u8], r: usize, sbox: &[u8; 256]) -> [u8; 16]
+    requires { ⌜ (r < 15) × (length (now w) ≡ 240) × (now sbox ≡ table sBox 256) ⌝ }
     ensures { λ t. ⌜ t ≡ addRoundKey (mixColumns (shiftRows (subBytes s))) (roundKey (now (w .entry)) r) ⌝ }
 {
-    add(mix_columns(sub_shift(s, sbox), doubles), round_key(w, r))
+    add(mix_columns(sub_shift(s, sbox)), round_key(w, r))
 }
 
-fn inv_round(s: [u8; 16], w: &[u8], r: usize, inv_sbox: &[u8; 256], doubles: &[u8; 256]) -> [u8; 16]
-    requires { ⌜ (r < 15) × (length (now w) ≡ 240) × (now «inv_sbox» ≡ table invSBox 256) × (now doubles ≡ table xTimes 256) ⌝ }
+fn inv_round(s: [u8; 16], w: &[u8], r: usize, inv_sbox: &[u8; 256]) -> [u8; 16]
+    requires { ⌜ (r < 15) × (length (now w) ≡ 240) × (now «inv_sbox» ≡ table invSBox 256) ⌝ }
     ensures { λ t. ⌜ t ≡ invMixColumns (addRoundKey (invSubBytes (invShiftRows s)) (roundKey (now (w .entry)) r)) ⌝ }
 {
     let t = add(inv_shift_sub(s, inv_sbox), round_key(w, r));
-    mix_columns(spread_columns(t, doubles), doubles)
+    inv_mix_columns(t)
 }
 
 // What whole rounds and the last one share, in each direction.

@@ -6,6 +6,7 @@ mod record;
 pub mod reply;
 mod state;
 pub mod tables;
+mod word;
 
 pub use cipher::decrypt;
 pub use cipher::encrypt;

@@ -3,7 +3,6 @@ ghost use mathlib.Core.Path.{_≡_};
 ghost use Prim.Native.Nat.{_<_};
 ghost use lib.ListN.{length, getD};
 ghost use Rattle.aes.specs.Byte.{table};
-ghost use Rattle.aes.specs.Field.{xTimes};
 ghost use Rattle.aes.specs.Box.{sBox};
 ghost use Rattle.aes.specs.State.{subBytes, shiftRows, mixColumns, addRoundKey};
 ghost use Rattle.aes.specs.Key.{roundKey};
@@ -33,13 +32,12 @@ pub fn record_plain(schedule: &[u8], input: &[u8], states: &mut [u8]) -> u8
         return reply::RECORD_LENGTH;
     }
     let sbox = tables::sbox();
-    let doubles = tables::doubles();
-    recorded(block(input), schedule, &sbox, &doubles, states);
+    recorded(block(input), schedule, &sbox, states);
     reply::DONE
 }
 
-fn recorded(input: [u8; 16], w: &[u8], sbox: &[u8; 256], doubles: &[u8; 256], states: &mut [u8])
-    requires { ⌜ (length (now w) ≡ 240) × (now sbox ≡ table sBox 256) × (now doubles ≡ table xTimes 256) × (length (now states) ≡ 1136) ⌝ }
+fn recorded(input: [u8; 16], w: &[u8], sbox: &[u8; 256], states: &mut [u8])
+    requires { ⌜ (length (now w) ≡ 240) × (now sbox ≡ table sBox 256) × (length (now states) ≡ 1136) ⌝ }
     ensures { λ _. ⌜ now (states .exit) ≡ bytes (plainRecord 14 (now (w .entry)) input) ⌝ }
 {
     let mut s = put(input, &mut states[0..16]);
@@ -47,40 +45,33 @@ fn recorded(input: [u8; 16], w: &[u8], sbox: &[u8; 256], doubles: &[u8; 256], st
     while r < 14 {
         let a = 80 * r + 16;
         let e = a + 80;
-        let t = round(s, w, r, sbox, doubles, &mut states[a..e]);
+        let t = round(s, w, r, sbox, &mut states[a..e]);
         s = t;
         r += 1;
     }
 }
 
 // The five states of a round. The plain run has nothing to add at the fifth: the state is recorded as it is.
-fn round(
-    s: [u8; 16],
-    w: &[u8],
-    r: usize,
-    sbox: &[u8; 256],
-    doubles: &[u8; 256],
-    states: &mut [u8],
-) -> [u8; 16]
-    requires { ⌜ (r < 14) × (length (now w) ≡ 240) × (now sbox ≡ table sBox 256) × (now doubles ≡ table xTimes 256) × (length (now states) ≡ 80) ⌝ }
+fn round(s: [u8; 16], w: &[u8], r: usize, sbox: &[u8; 256], states: &mut [u8]) -> [u8; 16]
+    requires { ⌜ (r < 14) × (length (now w) ≡ 240) × (now sbox ≡ table sBox 256) × (length (now states) ≡ 80) ⌝ }
     ensures { λ t. ⌜ Recorded (plain (now (w .entry))) s (five r) t (now (states .exit)) ⌝ }
 {
     let t = key(s, w, r, &mut states[0..16]);
     let u = boxes(t, sbox, &mut states[16..32]);
     let v = shift(u, &mut states[32..48]);
-    let x = fourth(v, w, r, doubles, &mut states[48..64]);
+    let x = fourth(v, w, r, &mut states[48..64]);
     put(x, &mut states[64..80])
 }
 
 // What comes after ShiftRows: MixColumns, or the last key.
-fn fourth(s: [u8; 16], w: &[u8], r: usize, doubles: &[u8; 256], part: &mut [u8]) -> [u8; 16]
-    requires { ⌜ (length (now w) ≡ 240) × (now doubles ≡ table xTimes 256) × (length (now part) ≡ 16) ⌝ }
+fn fourth(s: [u8; 16], w: &[u8], r: usize, part: &mut [u8]) -> [u8; 16]
+    requires { ⌜ (length (now w) ≡ 240) × (length (now part) ≡ 16) ⌝ }
     ensures { λ t. ⌜ (t ≡ plain (now (w .entry)) (getD (five r) 3 block) s) × (now (part .exit) ≡ t) ⌝ }
 {
     if r == 13 {
         return key(s, w, 14, part);
     }
-    mix(s, doubles, part)
+    mix(s, part)
 }
 
 // The steps: each gives the next state and writes it to the part that it was lent.
@@ -105,9 +96,9 @@ fn shift(s: [u8; 16], part: &mut [u8]) -> [u8; 16]
     put(shift_rows(s), part)
 }
 
-fn mix(s: [u8; 16], doubles: &[u8; 256], part: &mut [u8]) -> [u8; 16]
-    requires { ⌜ (now doubles ≡ table xTimes 256) × (length (now part) ≡ 16) ⌝ }
+fn mix(s: [u8; 16], part: &mut [u8]) -> [u8; 16]
+    requires { ⌜ length (now part) ≡ 16 ⌝ }
     ensures { λ t. ⌜ (t ≡ mixColumns s) × (now (part .exit) ≡ t) ⌝ }
 {
-    put(mix_columns(s, doubles), part)
+    put(mix_columns(s), part)
 }

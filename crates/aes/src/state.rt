@@ -2,22 +2,25 @@
 ghost use mathlib.Core.Path.{_≡_};
 ghost use Prim.Native.Nat.{_<_};
 ghost use lib.ListN.{length};
-ghost use Rattle.aes.specs.State.{shiftRows, invShiftRows, addRoundKey};
+ghost use Rattle.aes.specs.State.{shiftRows, invShiftRows, mixColumns, invMixColumns, addRoundKey};
 ghost use Rattle.aes.specs.Key.{roundKey};
-ghost use Rattle.aes.specs.Lent.{moved, substituted, mixedColumn, mixedBy, spreadBy};
+ghost use Rattle.aes.specs.Lent.{moved, substituted};
 use crate::tables::entry;
+use crate::word::column;
+use crate::word::inv_mix_column;
+use crate::word::joined;
+use crate::word::mix_column;
 
 // The sum of two states, byte by byte: AddRoundKey, and the covering by a mask.
 pub fn add(a: [u8; 16], b: [u8; 16]) -> [u8; 16]
     ensures { λ r. ⌜ r ≡ addRoundKey a b ⌝ }
 {
-    let mut r = [0u8; 16];
-    let mut i = 0;
-    while i < 16 {
-        r[i] = a[i] ^ b[i];
-        i += 1;
-    }
-    r
+    joined(
+        column(a, 0) ^ column(b, 0),
+        column(a, 1) ^ column(b, 1),
+        column(a, 2) ^ column(b, 2),
+        column(a, 3) ^ column(b, 3),
+    )
 }
 
 // Each byte by the lent box.
@@ -60,54 +63,26 @@ fn moved(s: [u8; 16], step: usize) -> [u8; 16]
     r
 }
 
-// Each column by the matrix of MixColumns, where the lent table doubles.
-pub fn mix_columns(s: [u8; 16], doubles: &[u8; 256]) -> [u8; 16]
-    ensures { λ r. ⌜ r ≡ mixedBy (now (doubles .entry)) s ⌝ }
+pub fn mix_columns(s: [u8; 16]) -> [u8; 16]
+    ensures { λ r. ⌜ r ≡ mixColumns s ⌝ }
 {
-    let mut r = [0u8; 16];
-    let mut c = 0;
-    while c < 4 {
-        let i = 4 * c;
-        let j = i + 1;
-        let k = i + 2;
-        let l = i + 3;
-        let p = mix_column(s[i], s[j], s[k], s[l], doubles);
-        r[i] = p[0];
-        r[j] = p[1];
-        r[k] = p[2];
-        r[l] = p[3];
-        c += 1;
-    }
-    r
+    joined(
+        mix_column(column(s, 0)),
+        mix_column(column(s, 1)),
+        mix_column(column(s, 2)),
+        mix_column(column(s, 3)),
+    )
 }
 
-// What MixColumns makes InvMixColumns of: to each byte, four times its sum with the byte opposite in its column is added.
-pub(crate) fn spread_columns(s: [u8; 16], doubles: &[u8; 256]) -> [u8; 16]
-    ensures { λ r. ⌜ r ≡ spreadBy (now (doubles .entry)) s ⌝ }
+pub(crate) fn inv_mix_columns(s: [u8; 16]) -> [u8; 16]
+    ensures { λ r. ⌜ r ≡ invMixColumns s ⌝ }
 {
-    let mut r = [0u8; 16];
-    let mut i = 0;
-    while i < 16 {
-        let u = entry(doubles, s[i] ^ s[4 * (i / 4) + (i + 2) % 4]);
-        r[i] = s[i] ^ entry(doubles, u);
-        i += 1;
-    }
-    r
-}
-
-fn mix_column(a: u8, b: u8, c: u8, e: u8, doubles: &[u8; 256]) -> [u8; 4]
-    ensures { λ r. ⌜ r ≡ mixedColumn (now (doubles .entry)) a b c e ⌝ }
-{
-    let a2 = entry(doubles, a);
-    let b2 = entry(doubles, b);
-    let c2 = entry(doubles, c);
-    let e2 = entry(doubles, e);
-    [
-        a2 ^ b2 ^ b ^ c ^ e,
-        b2 ^ c2 ^ c ^ e ^ a,
-        c2 ^ e2 ^ e ^ a ^ b,
-        e2 ^ a2 ^ a ^ b ^ c,
-    ]
+    joined(
+        inv_mix_column(column(s, 0)),
+        inv_mix_column(column(s, 1)),
+        inv_mix_column(column(s, 2)),
+        inv_mix_column(column(s, 3)),
+    )
 }
 
 pub(crate) fn round_key(w: &[u8], r: usize) -> [u8; 16]

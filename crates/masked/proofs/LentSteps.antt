@@ -9,15 +9,12 @@ use lib.Dec.{T, eqb, eqb→eq, lit≤}
 use lib.ListN.{length, getD}
 use mir.Facts.{and-yes, no-eqb}
 use Rattle.aes.specs.Byte.{_⊕_, table}
-use Rattle.aes.specs.Field.{xTimes}
 use Rattle.aes.specs.Box.{sBox}
-use Rattle.aes.specs.State.{at, shiftRows, addRoundKey, Bytes}
-use Rattle.aes.specs.Lent.{mixedBy}
+use Rattle.aes.specs.State.{at, shiftRows, mixColumns, addRoundKey, Bytes}
 use Rattle.aes.specs.Record.{Point, block, keyed, boxed, shifted, mixed, compensated, closed, uncovered, final, wholes, five, points, run, last}
 use Rattle.aes.proofs.Xor.{xor-byte}
 use Rattle.aes.proofs.Listed.{table-same}
 use Rattle.aes.proofs.Boxes.{sBox-byte}
-use Rattle.aes.proofs.Steps.{mix-lent}
 use Rattle.aes.proofs.Undo.{state-bytes, add-bytes, key-bytes, shift-bytes, mix-bytes}
 use Rattle.aes.proofs.Part.{back}
 use Rattle.aes.proofs.Written.{Sized, Written, turns, recorded-one, written-block, written-turn, run-append, last-append}
@@ -26,16 +23,16 @@ use Rattle.masked.specs.Run.{covered, maskedRecord}
 use Rattle.masked.specs.Lent.{boxedBy, steps, pointAfter}
 use Rattle.masked.proofs.Store.{box-at, compensation-at}
 
-pub steps-sized : (w b c d : List ℕ) (o : ℕ) (end : List ℕ) → Sized (steps w b c d o end)
-unfolding steps addRoundKey boxedBy shiftRows mixedBy
-steps-sized w b c d o end block s l = l
-steps-sized w b c d o end (keyed r) s l = refl
-steps-sized w b c d o end (boxed r) s l = refl
-steps-sized w b c d o end (shifted r) s l = refl
-steps-sized w b c d o end (mixed r) s l = refl
-steps-sized w b c d o end (compensated r) s l = refl
-steps-sized w b c d o end (closed r) s l = refl
-steps-sized w b c d o end (uncovered r) s l = refl
+pub steps-sized : (w b c : List ℕ) (o : ℕ) (end : List ℕ) → Sized (steps w b c o end)
+unfolding steps addRoundKey boxedBy shiftRows mixColumns
+steps-sized w b c o end block s l = l
+steps-sized w b c o end (keyed r) s l = refl
+steps-sized w b c o end (boxed r) s l = refl
+steps-sized w b c o end (shifted r) s l = refl
+steps-sized w b c o end (mixed r) s l = refl
+steps-sized w b c o end (compensated r) s l = refl
+steps-sized w b c o end (closed r) s l = refl
+steps-sized w b c o end (uncovered r) s l = refl
 
 -- where a run goes on from
 pub reached-more : (f : Point → List ℕ → List ℕ) (ps qs : List Point) (s t u : List ℕ)
@@ -135,7 +132,7 @@ module _ {M w : List ℕ} (hM : Bytes 16 M) (hw : Bytes 240 w) (form o : ℕ) wh
 
   -- the steps as a run of fourteen rounds has them
   abbrev lent : Point → List ℕ → List ℕ
-  lent = steps w (maskedBoxes M) (allCompensations M) (table xTimes 256) o (ending form (mask M ((o + 14) % 16)))
+  lent = steps w (maskedBoxes M) (allCompensations M) o (ending form (mask M ((o + 14) % 16)))
 
   -- behind the covered block, and uncovered after round 13 alone
   due : Point → Bool
@@ -155,7 +152,7 @@ module _ {M w : List ℕ} (hM : Bytes 16 M) (hw : Bytes 240 w) (form o : ℕ) wh
       table-same (λ i. at (maskedBoxes M) (256 * (((o + r) % 16 + i) % 16) + at s i)) (λ i. maskedBox M (o + i + r) (at s i)) 16
       (λ i l. box-at M (((o + r) % 16 + i) % 16) (at s i) (omega arith) (h .byte i) ∙ box-turn M (((o + r) % 16 + i) % 16) (o + i + r) (at s i) (omega arith))
   lent-is (shifted r) t s h = refl
-  lent-is (mixed r) t s h = mix-lent s h
+  lent-is (mixed r) t s h = refl
   lent-is (compensated r) t s h =
       ap (λ (k : List ℕ). s ⊞ k) (compensation-at M ((o + suc r) % 16) (omega arith) ∙ compensation-turn M ((o + suc r) % 16) (o + 1 + r) (omega arith))
   lent-is (closed r) t s h = refl
@@ -179,13 +176,13 @@ module _ {M w : List ℕ} (hM : Bytes 16 M) (hw : Bytes 240 w) (form o : ℕ) wh
       rw (lent-is p (d .0) s h) (ap (λ (u : List (List ℕ)). covered form M o w p s ∷ u) (run-is ps (d .1) (covered form M o w p s) (covered-bytes p h)))
 
   -- what a run of the steps records, where it is lent the right tables and starts from the covered block
-  pub lent-record : {input : List ℕ} → Bytes 16 input → (s b c d end : List ℕ) → s ≡ input ⊞ mask M ((o + 0) % 16) → b ≡ maskedBoxes M
-      → c ≡ allCompensations M → d ≡ table xTimes 256 → end ≡ ending form (mask M ((o + 14) % 16))
-      → run (steps w b c d o end) s (points 14) ≡ maskedRecord 14 form M o w input
+  pub lent-record : {input : List ℕ} → Bytes 16 input → (s b c end : List ℕ) → s ≡ input ⊞ mask M ((o + 0) % 16) → b ≡ maskedBoxes M
+      → c ≡ allCompensations M → end ≡ ending form (mask M ((o + 14) % 16))
+      → run (steps w b c o end) s (points 14) ≡ maskedRecord 14 form M o w input
   unfolding maskedRecord points wholes all-due due covered
-  lent-record {input} h s b c d end es eb ec ed ee =
+  lent-record {input} h s b c end es eb ec ee =
       let start : s ≡ input ⊞ mask M o = es ∙ ap (λ (m : List ℕ). input ⊞ m) (mask-turn M ((o + 0) % 16) o (omega arith)) in
-      (λ i. run (steps w (eb i) (ec i) (ed i) o (ee i)) (start i) (points 14))
+      (λ i. run (steps w (eb i) (ec i) o (ee i)) (start i) (points 14))
       ∙ run-block (input ⊞ mask M o) (wholes 13 ++ final 13)
       ∙ ap (λ (u : List (List ℕ)). (input ⊞ mask M o) ∷ u) (run-is (wholes 13 ++ final 13) tt (input ⊞ mask M o) (add-bytes h (mask-bytes o)))
       ∙ sym (run-first (covered form M o w) input block (wholes 13 ++ final 13))

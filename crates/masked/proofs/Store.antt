@@ -1,6 +1,6 @@
--- The masked boxes and the compensations as antt works them out, and what a row of boxes and of constants has at each label.
+-- The masked boxes as antt works them out, and what a row of boxes and of constants has at each label.
 -- Assumes nothing.
-use mathlib.Core.Path.{_≡_, refl, sym, ap, fun-ext, _∙_}
+use mathlib.Core.Path.{_≡_, refl, ap, fun-ext, _∙_}
 use mathlib.Core.Bool.{Bool, true, _&&_}
 use mathlib.Core.List.{List, [], _∷_}
 use Prim.Native.Nat.{ℕ, zero, suc, _+_, _*_, _%_, _<_}
@@ -8,17 +8,14 @@ use lib.Dec.{T, ltb, lit<}
 use mir.Facts.{and-yes}
 use lib.ListN.{length}
 use Rattle.aes.specs.Byte.{_⊕_, table}
-use Rattle.aes.specs.Field.{xTimes}
 use Rattle.aes.specs.Box.{sBox}
-use Rattle.aes.specs.State.{at, shiftRows, Bytes}
+use Rattle.aes.specs.State.{at, Bytes}
 use Rattle.aes.specs.Key.{roundKey}
-use Rattle.aes.specs.Lent.{mixedBy}
 use Rattle.aes.proofs.Xor.{xor-byte}
 use Rattle.aes.proofs.Listed.{table-at, table-same, table-length}
 use Rattle.aes.proofs.Boxes.{boxes, boxes-are}
-use Rattle.aes.proofs.Steps.{mix-lent}
-use Rattle.aes.proofs.Undo.{add-size, state-at, state-bytes, shift-bytes}
-use Rattle.masked.specs.Mask.{_⊞_, published, maskByte, mask, inRow, maskedBox, maskedBoxes, compensation, allCompensations}
+use Rattle.aes.proofs.Undo.{add-size, state-at}
+use Rattle.masked.specs.Mask.{published, inRow, maskedBox, maskedBoxes, compensation, allCompensations}
 use Rattle.masked.proofs.Row.{row-at}
 
 -- box j, by looking S up in a list
@@ -55,19 +52,6 @@ published-bytes = record { size = refl; byte = small-at published tt }
 
 pub published-boxes : maskedBoxes published ≡ (let l : List ℕ = boxes in inRow (λ j. table (lookedUp l published j) 256) 16)
 published-boxes = boxes-worked-out published-bytes
-
--- Compensation(o), by a list of doubles
-unfoldable pub compensationBy : List ℕ → List ℕ → ℕ → List ℕ
-compensationBy d M o = mask M o ⊞ mixedBy d (shiftRows (mask M o))
-
-compensation-by : {M : List ℕ} → Bytes 16 M → (o : ℕ) → compensation M o ≡ compensationBy (table xTimes 256) M o
-unfolding compensation compensationBy mask
-compensation-by {M} h o =
-    ap (λ (k : List ℕ). mask M o ⊞ k) (sym (mix-lent (shiftRows (mask M o)) (shift-bytes (state-bytes (maskByte M o) (λ i. h .byte _)))))
-
-pub published-compensations : allCompensations published ≡ (let d : List ℕ = table xTimes 256 in inRow (compensationBy d published) 16)
-unfolding allCompensations
-published-compensations = ap (λ (f : ℕ → List ℕ). inRow f 16) (fun-ext (compensation-by published-bytes))
 
 -- the formula at each entry of the store
 pub box-at : (M : List ℕ) (j x : ℕ) → j < 16 → x < 256 → at (maskedBoxes M) (256 * j + x) ≡ maskedBox M j x

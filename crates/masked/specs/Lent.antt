@@ -1,11 +1,10 @@
--- The steps of a masked run over what is lent to them: stored boxes, constants and doubles. What inner contracts cite.
+-- The steps of a masked run over what is lent to them: stored boxes and constants. What inner contracts cite.
 -- Assumes nothing.
 use mathlib.Core.List.{List}
 use Prim.Native.Nat.{ℕ, suc, _+_, _*_, _/_, _%_}
 use lib.ListN.{getD}
-use Rattle.aes.specs.State.{at, state, shiftRows}
+use Rattle.aes.specs.State.{at, state, shiftRows, mixColumns}
 use Rattle.aes.specs.Key.{roundKey}
-use Rattle.aes.specs.Lent.{mixedBy}
 use Rattle.aes.specs.Record.{Point, block, keyed, boxed, shifted, mixed, compensated, closed, uncovered, five}
 use Rattle.masked.specs.Mask.{_⊞_}
 
@@ -17,16 +16,16 @@ boxedBy b j s = state (λ i. at b (256 * ((j + i) % 16) + at s i))
 abbrev pub sixteen : List ℕ → ℕ → List ℕ
 sixteen = roundKey
 
--- the steps at offset o over a schedule w, boxes b, compensations c and doubles d, with the last constant; the block has been covered
-unfoldable pub steps : List ℕ → List ℕ → List ℕ → List ℕ → ℕ → List ℕ → Point → List ℕ → List ℕ
-steps w b c d o end block s = s
-steps w b c d o end (keyed r) s = s ⊞ roundKey w r
-steps w b c d o end (boxed r) s = boxedBy b ((o + r) % 16) s
-steps w b c d o end (shifted r) s = shiftRows s
-steps w b c d o end (mixed r) s = mixedBy d s
-steps w b c d o end (compensated r) s = s ⊞ sixteen c ((o + suc r) % 16)
-steps w b c d o end (closed r) s = s ⊞ roundKey w (suc r)
-steps w b c d o end (uncovered r) s = s ⊞ end
+-- the steps at offset o over a schedule w, boxes b and compensations c, with the last constant; the block has been covered
+unfoldable pub steps : List ℕ → List ℕ → List ℕ → ℕ → List ℕ → Point → List ℕ → List ℕ
+steps w b c o end block s = s
+steps w b c o end (keyed r) s = s ⊞ roundKey w r
+steps w b c o end (boxed r) s = boxedBy b ((o + r) % 16) s
+steps w b c o end (shifted r) s = shiftRows s
+steps w b c o end (mixed r) s = mixColumns s
+steps w b c o end (compensated r) s = s ⊞ sixteen c ((o + suc r) % 16)
+steps w b c o end (closed r) s = s ⊞ roundKey w (suc r)
+steps w b c o end (uncovered r) s = s ⊞ end
 
 -- point n after the covered block
 unfoldable pub pointAfter : ℕ → Point

@@ -1,8 +1,6 @@
 // The published masks of document 002, and the constants that are made of masks.
 ghost use mathlib.Core.Path.{_≡_};
 ghost use Prim.Native.Nat.{_+_, _%_, _<_};
-ghost use Rattle.aes.specs.Byte.{table};
-ghost use Rattle.aes.specs.Field.{xTimes};
 ghost use Rattle.masked.specs.Mask.{published, mask, compensation, allCompensations, ending};
 use crate::blocks::keep;
 use crate::label::Label;
@@ -11,7 +9,6 @@ use crate::label::Round;
 use aes::add;
 use aes::mix_columns;
 use aes::shift_rows;
-use aes::tables;
 
 const MASKS: [u8; 16] = *b"\
 \x00\x0f\x36\x39\x53\x5c\x65\x6a\x95\x9a\xa3\xac\xc6\xc9\xf0\xff";
@@ -77,14 +74,13 @@ pub(crate) fn ending(form: u8, masks: [u8; 16], offset: u8) -> [u8; 16]
 pub(crate) fn compensations(masks: [u8; 16]) -> [u8; 256]
     ensures { λ r. ⌜ r ≡ allCompensations masks ⌝ }
 {
-    let doubles = tables::doubles();
     let mut r = [0u8; 256];
     let mut l = Label::FIRST;
     let mut n = 0;
     while n < 16 {
         let a = 16 * n;
         let e = a + 16;
-        keep(compensation(masks, l, &doubles), &mut r[a..e]);
+        keep(compensation(masks, l), &mut r[a..e]);
         let m = l.next();
         l = m;
         n += 1;
@@ -92,10 +88,10 @@ pub(crate) fn compensations(masks: [u8; 16]) -> [u8; 256]
     r
 }
 
-fn compensation(masks: [u8; 16], l: Label, doubles: &[u8; 256]) -> [u8; 16]
-    requires { ⌜ (l .0 < 16) × (now doubles ≡ table xTimes 256) ⌝ }
+fn compensation(masks: [u8; 16], l: Label) -> [u8; 16]
+    requires { ⌜ l .0 < 16 ⌝ }
     ensures { λ r. ⌜ r ≡ compensation masks (l .0) ⌝ }
 {
     let m = mask(masks, l);
-    add(m, mix_columns(shift_rows(m), doubles))
+    add(m, mix_columns(shift_rows(m)))
 }

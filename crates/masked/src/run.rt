@@ -3,9 +3,8 @@
 ghost use mathlib.Core.Path.{_≡_};
 ghost use Prim.Native.Nat.{suc, _+_, _%_, _<_};
 ghost use lib.ListN.{length};
-ghost use Rattle.aes.specs.State.{shiftRows};
+ghost use Rattle.aes.specs.State.{shiftRows, mixColumns};
 ghost use Rattle.aes.specs.Key.{roundKey};
-ghost use Rattle.aes.specs.Lent.{mixedBy};
 ghost use Rattle.aes.specs.Record.{bytes};
 ghost use Rattle.masked.specs.Mask.{_⊞_, mask, maskedBoxes, allCompensations};
 ghost use Rattle.masked.specs.Run.{maskedRecord, maskedCipher};
@@ -22,7 +21,6 @@ use crate::steps::cover;
 use crate::steps::mix_columns;
 use crate::steps::shift_rows;
 use crate::steps::uncover;
-use aes::tables;
 
 // The 71 states, in form 0.
 pub(crate) fn recorded(
@@ -37,7 +35,6 @@ pub(crate) fn recorded(
     requires { ⌜ (length (now input) ≡ 16) × (length (now w) ≡ 240) × (now boxes ≡ maskedBoxes masks) × (now compensations ≡ allCompensations masks) × (length (now states) ≡ 1136) ⌝ }
     ensures { λ _. ⌜ now (states .exit) ≡ bytes (maskedRecord 14 0 masks offset (now (w .entry)) (now (input .entry))) ⌝ }
 {
-    let doubles = tables::doubles();
     let end = ending(0, masks, offset);
     let mut s = cover(
         sixteen(input, 0),
@@ -53,7 +50,6 @@ pub(crate) fn recorded(
             w,
             boxes,
             compensations,
-            &doubles,
             offset,
             end,
             n,
@@ -78,7 +74,6 @@ pub(crate) fn unrecorded(
     requires { ⌜ (length (now input) ≡ 16) × (length (now w) ≡ 240) × (now boxes ≡ maskedBoxes masks) × (now compensations ≡ allCompensations masks) × (length (now output) ≡ 16) ⌝ }
     ensures { λ _. ⌜ now (output .exit) ≡ maskedCipher 14 form masks offset (now (w .entry)) (now (input .entry)) ⌝ }
 {
-    let doubles = tables::doubles();
     let end = ending(form, masks, offset);
     let mut part = [0u8; 16];
     let mut s = covered(input, masks, offset, &mut part);
@@ -90,7 +85,7 @@ pub(crate) fn unrecorded(
             uncover(u, end, output);
             return;
         }
-        let u = rest(t, compensations, &doubles, offset, Round::number(r));
+        let u = rest(t, compensations, offset, Round::number(r));
         s = u;
         r += 1;
     }
@@ -114,14 +109,13 @@ fn point(
     w: &[u8],
     lent: &[u8; 4096],
     compensations: &[u8; 256],
-    doubles: &[u8; 256],
     offset: u8,
     end: [u8; 16],
     n: usize,
     part: &mut [u8],
 ) -> [u8; 16]
     requires { ⌜ (n < 70) × (length (now w) ≡ 240) × (length (now part) ≡ 16) ⌝ }
-    ensures { λ t. ⌜ (t ≡ steps (now (w .entry)) (now (lent .entry)) (now (compensations .entry)) (now (doubles .entry)) offset end (pointAfter n) s) × (now (part .exit) ≡ t) ⌝ }
+    ensures { λ t. ⌜ (t ≡ steps (now (w .entry)) (now (lent .entry)) (now (compensations .entry)) offset end (pointAfter n) s) × (now (part .exit) ≡ t) ⌝ }
 {
     let r = Round::number(n / 5);
     let l = Label::make(offset, r);
@@ -134,7 +128,7 @@ fn point(
             if n == 68 {
                 return add_key(s, w, Round::END, part);
             }
-            mix_columns(s, doubles, part)
+            mix_columns(s, part)
         }
         _ => {
             if n == 69 {
@@ -158,17 +152,11 @@ fn half(s: [u8; 16], w: &[u8], lent: &[u8; 4096], offset: u8, r: Round) -> [u8; 
 }
 
 // What a whole round ends with: MixColumns and compensation.
-fn rest(
-    s: [u8; 16],
-    compensations: &[u8; 256],
-    doubles: &[u8; 256],
-    offset: u8,
-    r: Round,
-) -> [u8; 16]
+fn rest(s: [u8; 16], compensations: &[u8; 256], offset: u8, r: Round) -> [u8; 16]
     requires { ⌜ r .0 < 13 ⌝ }
-    ensures { λ t. ⌜ t ≡ mixedBy (now (doubles .entry)) s ⊞ roundKey (now (compensations .entry)) ((offset + suc (r .0)) % 16) ⌝ }
+    ensures { λ t. ⌜ t ≡ mixColumns s ⊞ roundKey (now (compensations .entry)) ((offset + suc (r .0)) % 16) ⌝ }
 {
     let mut part = [0u8; 16];
-    let t = mix_columns(s, doubles, &mut part);
+    let t = mix_columns(s, &mut part);
     compensate(t, compensations, Label::make(offset, r).next(), &mut part)
 }

@@ -3,9 +3,8 @@
 ghost use mathlib.Core.Path.{_≡_};
 ghost use Prim.Native.Nat.{_<_};
 ghost use lib.ListN.{length};
-ghost use Rattle.aes.specs.State.{shiftRows};
+ghost use Rattle.aes.specs.State.{shiftRows, mixColumns};
 ghost use Rattle.aes.specs.Key.{roundKey};
-ghost use Rattle.aes.specs.Lent.{mixedBy};
 ghost use Rattle.masked.specs.Mask.{_⊞_};
 ghost use Rattle.masked.specs.Lent.{boxedBy, sixteen};
 use crate::blocks::keep;
@@ -44,11 +43,11 @@ pub(crate) fn shift_rows(s: [u8; 16], part: &mut [u8]) -> [u8; 16]
     keep(aes::shift_rows(s), part)
 }
 
-pub(crate) fn mix_columns(s: [u8; 16], doubles: &[u8; 256], part: &mut [u8]) -> [u8; 16]
+pub(crate) fn mix_columns(s: [u8; 16], part: &mut [u8]) -> [u8; 16]
     requires { ⌜ length (now part) ≡ 16 ⌝ }
-    ensures { λ t. ⌜ (t ≡ mixedBy (now (doubles .entry)) s) × (now (part .exit) ≡ t) ⌝ }
+    ensures { λ t. ⌜ (t ≡ mixColumns s) × (now (part .exit) ≡ t) ⌝ }
 {
-    keep(aes::mix_columns(s, doubles), part)
+    keep(aes::mix_columns(s), part)
 }
 
 pub(crate) fn compensate(

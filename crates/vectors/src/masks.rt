@@ -1,7 +1,6 @@
 // Tables of sixteen masks, and the mask that lies over a state of a masked run.
 use aes::mix_columns;
 use aes::shift_rows;
-use aes::tables;
 
 // Which of the two masked calls of one block is made: the one that has the published masks, or the one that is lent other masks.
 pub enum Masks {
@@ -57,7 +56,7 @@ fn in_round(table: [u8; 16], label: usize, step: usize) -> [u8; 16] {
     match step {
         0 => mask(table, label),
         2 => shift_rows(next),
-        3 => mix_columns(shift_rows(next), &tables::doubles()),
+        3 => mix_columns(shift_rows(next)),
         _ => next,
     }
 }

@@ -20,6 +20,8 @@ fn main() {
 fn products() {
     example(b"57 times 83", aes::multiply(0x57, 0x83), b"FIPS 4.2");
     example(b"57 times 13", aes::multiply(0x57, 0x13), b"FIPS 4.2");
+    example(b"57 times 02", aes::multiply(0x57, 0x02), b"FIPS 4.2");
+    example(b"ae times 02", aes::multiply(0xae, 0x02), b"FIPS 4.2");
     example(b"00 times ff", aes::multiply(0x00, 0xff), b"00 is a factor");
     example(b"inverse of 53", aes::inverse(0x53), b"53 times ca is 01");
     example(b"inverse of 00", aes::inverse(0x00), b"FIPS 5.1.1");
@@ -28,12 +30,9 @@ fn products() {
 fn boxes() {
     let sbox = tables::sbox();
     let inv_sbox = tables::inv_sbox();
-    let doubles = tables::doubles();
     example(b"S of 00", entry(&sbox, 0x00), b"FIPS 5.1.1");
     example(b"S of 53", entry(&sbox, 0x53), b"FIPS 5.1.1");
     example(b"inverse S of ed", entry(&inv_sbox, 0xed), b"FIPS 5.3.2");
-    example(b"57 doubled", entry(&doubles, 0x57), b"FIPS 4.2");
-    example(b"ae doubled", entry(&doubles, 0xae), b"FIPS 4.2");
 }
 
 fn powers() {

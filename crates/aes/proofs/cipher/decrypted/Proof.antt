@@ -12,16 +12,16 @@ use Rattle.aes.proofs.cipher.decrypted.Statement.{statement}
 use Rattle.aes.proofs.cipher.decrypted.Tie as tie
 
 abbrev Inv-loop : tie.InvT-loop
-Inv-loop w inv-sbox doubles s₀ r₀ s r = (r ≤ 13) × (invRounds w s r ≡ invRounds w s₀ 13)
+Inv-loop w inv-sbox s₀ r₀ s r = (r ≤ 13) × (invRounds w s r ≡ invRounds w s₀ 13)
 
 abbrev μ-loop : tie.MeasureT-loop
-μ-loop w inv-sbox doubles s₀ r₀ s r = r
+μ-loop w inv-sbox s₀ r₀ s r = r
 
 loop-again : tie.Need-loop-again Inv-loop μ-loop
 loop-again c =
-    let at-loop = c .before .before .before .before in
+    let at-loop = c .before .before .before in
     let l = at-loop .loop in
-    let w : List ℕ = at-loop .before .before .before .before .before .before .args .w .now in
+    let w : List ℕ = at-loop .before .before .before .before .before .args .w .now in
     let more = ap (λ (s : List ℕ). invRounds w s (l .r - 1)) (c .inv-round .ensures) in
     (search needs, more ∙ sym (inv-rounds-more w (l .s) (l .r) (omega arith)) ∙ l .inv .1)
 
@@ -33,7 +33,7 @@ returns c =
     let at-loop = sub .before .before .before in
     let l = at-loop .loop in
     let first = at-loop .before in
-    let a = first .before .before .before .before .before .args in
+    let a = first .before .before .before .before .args in
     let e : l .r ≡ 0 = omega arith in
     let begun = first .add .ensures ∙ ap (addRoundKey (a .input)) (first .before .round-key .ensures) in
     let done = sym (inv-rounds-none (a .w .now) (l .s)) ∙ ap (invRounds (a .w .now) (l .s)) (sym e) ∙ l .inv .1 ∙ ap (λ (s : List ℕ). invRounds (a .w .now) s 13) begun in
@@ -43,6 +43,6 @@ returns c =
 pub decrypted-spec : {M : Type 1} → statement M
 decrypted-spec =
     tie.close
-    (tie.spec Inv-loop μ-loop (λ c κs. search needs) (λ c κs. search needs) (λ c κs. search needs) (λ c κs. search needs)
+    (tie.spec Inv-loop μ-loop (λ c κs. search needs) (λ c κs. search needs) (λ c κs. search needs)
     (λ c. (search needs, refl)) (λ c κs. search needs) (λ c. search needs) (λ c. search needs) loop-again (λ c κs. search needs) (λ c κs. search needs)
     (λ c κs. search needs) returns)

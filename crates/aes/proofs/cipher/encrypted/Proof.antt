@@ -13,17 +13,17 @@ use Rattle.aes.proofs.cipher.encrypted.Statement.{statement}
 use Rattle.aes.proofs.cipher.encrypted.Tie as tie
 
 abbrev Inv-loop : tie.InvT-loop
-Inv-loop w sbox doubles s₀ r₀ s r = (r ≤ 13) × (s ≡ rounds w s₀ r)
+Inv-loop w sbox s₀ r₀ s r = (r ≤ 13) × (s ≡ rounds w s₀ r)
 
 abbrev μ-loop : tie.MeasureT-loop
-μ-loop w sbox doubles s₀ r₀ s r = 13 - r
+μ-loop w sbox s₀ r₀ s r = 13 - r
 
 loop-again : tie.Need-loop-again Inv-loop μ-loop
 loop-again c =
-    let at-loop = c .before .before .before .before in
+    let at-loop = c .before .before .before in
     let l = at-loop .loop in
     let first = at-loop .before in
-    let w : List ℕ = first .before .before .before .before .before .args .w .now in
+    let w : List ℕ = first .before .before .before .before .args .w .now in
     let more = ap (λ (s : List ℕ). addRoundKey (mixColumns (shiftRows (subBytes s))) (roundKey w (l .r + 1))) (l .inv .1) in
     (search needs, c .round .ensures ∙ more ∙ sym (rounds-more w (first .add .result) (l .r)))
 
@@ -34,7 +34,7 @@ returns c =
     let sub = key .before in
     let at-loop = sub .before .before .before in
     let first = at-loop .before in
-    let a = first .before .before .before .before .before .args in
+    let a = first .before .before .before .before .args in
     let e : at-loop .loop .r ≡ 13 = omega arith in
     let begun = first .add .ensures ∙ ap (addRoundKey (a .input)) (first .before .round-key .ensures) in
     let done = at-loop .loop .inv .1 ∙ λ i. rounds (a .w .now) (begun i) (e i) in
@@ -44,6 +44,6 @@ returns c =
 pub encrypted-spec : {M : Type 1} → statement M
 encrypted-spec =
     tie.close
-    (tie.spec Inv-loop μ-loop (λ c κs. search needs) (λ c κs. search needs) (λ c κs. search needs) (λ c κs. search needs)
+    (tie.spec Inv-loop μ-loop (λ c κs. search needs) (λ c κs. search needs) (λ c κs. search needs)
     (λ c. (search needs, rounds-none _ _)) (λ c. search needs) (λ c κs. search needs) (λ c. search needs) loop-again (λ c κs. search needs) (λ c κs. search needs)
     (λ c κs. search needs) returns)

@@ -26,8 +26,8 @@ returns-3 c =
 returns-4 : tie.Need-returns-4
 returns-4 c =
     let recorded = c .before .before in
-    let block = recorded .before .before .before .before in
-    let a = block .before .before .before .before .before .before .before .before .before .args in
+    let block = recorded .before .before .before in
+    let a = block .before .before .before .before .before .before .before .before .args in
     simp (
       eq-eqb (length (a .schedule .now)) 240 (search needs),
       eq-eqb (length (a .input .now)) 16 (search needs),
@@ -37,4 +37,4 @@ returns-4 c =
     (recorded .recorded .ensures ∙ ap (λ (b : List ℕ). bytes (plainRecord 14 (a .schedule .now) b)) (block .block .ensures)))
 
 pub record-plain-spec : {M : Type 1} → statement M
-record-plain-spec = tie.close (tie.spec returns returns-2 returns-3 (λ c κs. search needs) (λ c κs. search needs) (λ c κs. search needs) (λ c κs. search needs) (λ c. search needs) returns-4)
+record-plain-spec = tie.close (tie.spec returns returns-2 returns-3 (λ c κs. search needs) (λ c κs. search needs) (λ c κs. search needs) (λ c. search needs) returns-4)

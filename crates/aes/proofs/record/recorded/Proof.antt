@@ -14,11 +14,11 @@ use Rattle.aes.proofs.record.recorded.Statement.{statement}
 use Rattle.aes.proofs.record.recorded.Tie as tie
 
 abbrev Inv-loop : tie.InvT-loop
-Inv-loop w sbox doubles states₀ s₀ r₀ states s r =
+Inv-loop w sbox states₀ s₀ r₀ states s r =
     (r ≤ 14) × (length s₀ ≡ 16) × Written (plain w) s₀ 1136 (block ∷ turns five r) s states
 
 abbrev μ-loop : tie.MeasureT-loop
-μ-loop w sbox doubles states₀ s₀ r₀ states s r = 14 - r
+μ-loop w sbox states₀ s₀ r₀ states s r = 14 - r
 
 begin : tie.Need-loop-holds Inv-loop μ-loop
 unfolding plain
@@ -26,7 +26,7 @@ begin c =
     let kept = c .before .before in
     let start = kept .before .before .before .before in
     let size : length (kept .put .result) ≡ 16 = ap length (kept .put .ensures .0) ∙ start .good .0 .1 .0 .1 in
-    (lit≤ tt, size, written-block (plain-sized (start .args .w .now)) size (start .args .states .now) (start .pre .3) refl (kept .put .ensures .1))
+    (lit≤ tt, size, written-block (plain-sized (start .args .w .now)) size (start .args .states .now) (start .pre .2) refl (kept .put .ensures .1))
 
 next : {r : ℕ} → r < 14 → r + 1 ≤ 14
 next lt = omega (arith, lt)
@@ -44,7 +44,7 @@ again c =
 round-needs : tie.Need-round-requires Inv-loop μ-loop
 round-needs c κs =
     let pre = c .before .before .before .before .before .before .before .before .before .pre in
-    (c .before .loop-test .taken, pre .0, pre .1, pre .2, search needs)
+    (c .before .loop-test .taken, pre .0, pre .1, search needs)
 
 returns : tie.Need-returns Inv-loop μ-loop
 unfolding plainRecord

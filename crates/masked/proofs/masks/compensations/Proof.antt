@@ -15,17 +15,14 @@ use Rattle.masked.proofs.masks.compensations.Statement.{statement}
 use Rattle.masked.proofs.masks.compensations.Tie as tie
 
 abbrev Inv-loop : tie.InvT-loop
-Inv-loop masks doubles r₀ l₀ n₀ r l n = (n ≤ 16) × (l .0 ≡ n % 16) × Holds 256 (inRow (compensation masks) n) r
+Inv-loop masks r₀ l₀ n₀ r l n = (n ≤ 16) × (l .0 ≡ n % 16) × Holds 256 (inRow (compensation masks) n) r
 
 abbrev μ-loop : tie.MeasureT-loop
-μ-loop masks doubles r₀ l₀ n₀ r l n = 16 - n
+μ-loop masks r₀ l₀ n₀ r l n = 16 - n
 
 begin : tie.Need-loop-holds Inv-loop μ-loop
 unfolding inRow
 begin c = (lit≤ tt, refl, holds-none 256 _ refl)
-
-lent-doubles : tie.Need-compensation-requires Inv-loop μ-loop
-lent-doubles c κs = (search needs, c .before .before .before .doubles .ensures)
 
 small : (n : ℕ) → n < 16 → n % 16 ≡ n
 small n lt = omega (arith, lt)
@@ -37,9 +34,9 @@ again : tie.Need-loop-again Inv-loop μ-loop
 again c =
     let keep = c .before .before in
     let made = keep .before .before in
-    let in-loop = made .before .before in
+    let in-loop = made .before in
     let l = in-loop .before .loop in
-    let M : List ℕ = in-loop .before .before .before .args .masks in
+    let M : List ℕ = in-loop .before .before .args .masks in
     let n : ℕ = l .n in
     let label : l .l .0 ≡ n = l .inv .1 ∙ small n (in-loop .loop-test .taken) in (
       one-more (in-loop .loop-test .taken),
@@ -52,11 +49,11 @@ returns : tie.Need-returns Inv-loop μ-loop
 unfolding allCompensations
 returns c =
     let l = c .before .loop in
-    let M : List ℕ = c .before .before .before .args .masks in
+    let M : List ℕ = c .before .before .args .masks in
     let e : l .n ≡ 16 = ended (l .inv .0) (c .loop-test .left) in
     holds-all 256 (inRow (compensation M) 16) (l .r) (rw e at (l .inv .2)) (row-size (compensation M) 16 (compensation-size M) 16)
 
 pub compensations-spec : {M : Type 1} → statement M
 compensations-spec =
     tie.close
-    (tie.spec Inv-loop μ-loop (λ c κs. search needs) begin (λ c. search needs) (λ c. search needs) lent-doubles (λ c. search needs) (λ c. search needs) (λ c. search needs) (λ c κs. search needs) (λ c κs. search needs) (λ c. search needs) (λ c. search needs) again returns)
+    (tie.spec Inv-loop μ-loop begin (λ c. search needs) (λ c. search needs) (λ c κs. search needs) (λ c. search needs) (λ c. search needs) (λ c. search needs) (λ c κs. search needs) (λ c κs. search needs) (λ c. search needs) (λ c. search needs) again returns)

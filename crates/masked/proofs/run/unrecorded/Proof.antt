@@ -6,9 +6,8 @@ use Prim.Native.Nat.{ℕ, suc, _+_, _-_, _%_, _≤_, _<_}
 use native.Mathlib.Omega.{arith}
 use borrow.Author.Needs.{needs}
 use lib.ListN.{length}
-use Rattle.aes.specs.State.{at, shiftRows, Bytes}
+use Rattle.aes.specs.State.{at, shiftRows, mixColumns, Bytes}
 use Rattle.aes.specs.Key.{roundKey}
-use Rattle.aes.specs.Lent.{mixedBy}
 use Rattle.aes.specs.Record.{block, whole, final, wholes, points, run, last}
 use Rattle.aes.proofs.Given.{array-bytes}
 use Rattle.aes.proofs.Steps.{byte}
@@ -21,15 +20,15 @@ use Rattle.masked.proofs.run.unrecorded.Statement.{statement}
 use Rattle.masked.proofs.run.unrecorded.Tie as tie
 
 abbrev Inv-loop : tie.InvT-loop
-Inv-loop input w boxes compensations offset form output₀ doubles end s₀ r₀ output s r =
-    (r ≤ 13) × (length output ≡ 16) × (s ≡ last s₀ (run (steps w boxes compensations doubles offset end) s₀ (block ∷ wholes r)))
+Inv-loop input w boxes compensations offset form output₀ end s₀ r₀ output s r =
+    (r ≤ 13) × (length output ≡ 16) × (s ≡ last s₀ (run (steps w boxes compensations offset end) s₀ (block ∷ wholes r)))
 
 abbrev μ-loop : tie.MeasureT-loop
-μ-loop input w boxes compensations offset form output₀ doubles end s₀ r₀ output s r = 14 - r
+μ-loop input w boxes compensations offset form output₀ end s₀ r₀ output s r = 14 - r
 
 begin : tie.Need-loop-holds Inv-loop μ-loop
 unfolding wholes run last steps
-begin c = (search needs, c .before .before .before .before .before .before .before .before .pre .4, refl)
+begin c = (search needs, c .before .before .before .before .before .before .before .pre .4, refl)
 
 not-last : (r : ℕ) → r < 14 → (r ≡ 13 → ⊥) → r + 1 ≤ 13
 not-last r lt other = omega arith
@@ -38,7 +37,7 @@ again : tie.Need-loop-again Inv-loop μ-loop
 unfolding run last steps
 again c =
     let number = c .before in
-    let whole-one = number .before .before in
+    let whole-one = number .before in
     let half = whole-one .before in
     let first = half .before in
     let in-loop = first .before in
@@ -47,15 +46,14 @@ again c =
     let covering = at-loop .before .before in
     let uncovering = covering .before .before in
     let end : List ℕ = uncovering .ending .result in
-    let doubles = uncovering .before in
-    let a = doubles .before .before .before .before .args in
+    let a = uncovering .before .before .before .before .args in
     let r : ℕ = l .r in
     let begun = half .half .ensures ∙ ap (λ (k : ℕ). shiftRows (boxedBy (a .boxes .now) ((a .offset + k) % 16) (l .s ⊞ roundKey (a .w .now) k))) (first .number .ensures) in
-    let reached = c .rest .ensures ∙ λ i. mixedBy (doubles .doubles .result) (begun i) ⊞ roundKey (a .compensations .now) ((a .offset + suc (number .number2 .ensures i)) % 16) in (
+    let reached = c .rest .ensures ∙ λ i. mixColumns (begun i) ⊞ roundKey (a .compensations .now) ((a .offset + suc (number .number2 .ensures i)) % 16) in (
       not-last r (in-loop .loop-test .taken) (whole-one .if1 .left),
       l .inv .1,
       rw wholes-more
-          (reached-more (steps (a .w .now) (a .boxes .now) (a .compensations .now) (doubles .doubles .result) (a .offset) end) (block ∷ wholes r) (whole r) (covering .covered .result) (l .s) (c .rest .result) (l .inv .2) reached),
+          (reached-more (steps (a .w .now) (a .boxes .now) (a .compensations .now) (a .offset) end) (block ∷ wholes r) (whole r) (covering .covered .result) (l .s) (c .rest .result) (l .inv .2) reached),
     )
 
 returns : tie.Need-returns Inv-loop μ-loop
@@ -70,13 +68,12 @@ returns c =
     let l = at-loop .loop in
     let covering = at-loop .before .before in
     let uncovering = covering .before .before in
-    let doubles = uncovering .before in
-    let known = doubles .before .before in
+    let known = uncovering .before .before in
     let start = known .before .before in
     let a = start .args in
     let s : List ℕ = covering .covered .result in
     let end : List ℕ = uncovering .ending .result in
-    let f = steps (a .w .now) (a .boxes .now) (a .compensations .now) (doubles .doubles .result) (a .offset) end in
+    let f = steps (a .w .now) (a .boxes .now) (a .compensations .now) (a .offset) end in
     let b : Bytes 16 (a .input .now) = record { size = start .pre .0; byte = λ i. byte (at (a .input .now) i) (known .before .shared-slice-known .given i) } in
     let m : Bytes 16 (a .masks) = array-bytes (start .good .1 .1 .0) in
     let w : Bytes 240 (a .w .now) = record { size = start .pre .1; byte = λ i. byte (at (a .w .now) i) (known .shared-slice-known2 .given i) } in
@@ -87,8 +84,8 @@ returns c =
     (closing .uncover .ensures .0 ∙ ap (λ (t : List ℕ). t ⊞ end) (key .add-key .ensures .0 ∙ ap (λ (t : List ℕ). t ⊞ roundKey (a .w .now) 14) begun))
     ∙ last-any f s (a .input .now) s block (wholes 13 ++ final 13)
     ∙ ap (last (a .input .now))
-    (lent-record m w (a .form) (a .offset) b s (a .boxes .now) (a .compensations .now) (doubles .doubles .result) end
-    (covering .covered .ensures .0) (start .pre .2) (start .pre .3) (doubles .doubles .ensures) (uncovering .ending .ensures))
+    (lent-record m w (a .form) (a .offset) b s (a .boxes .now) (a .compensations .now) end
+    (covering .covered .ensures .0) (start .pre .2) (start .pre .3) (uncovering .ending .ensures))
 
 -- the loop is left from inside
 never : (r : ℕ) → r ≤ 13 → 14 ≤ r → ⊥
@@ -100,4 +97,4 @@ returns-2 c = absurd (never (c .before .loop .r) (c .before .loop .inv .0) (c .l
 pub unrecorded-spec : {M : Type 1} → statement M
 unrecorded-spec =
     tie.close
-    (tie.spec Inv-loop μ-loop (λ c κs. search needs) (λ c κs. search needs) (λ c. search needs) (λ c κs. search needs) begin (λ c κs. search needs) (λ c κs. search needs) (λ c κs. search needs) (λ c κs. search needs) (λ c. search needs) returns (λ c κs. search needs) (λ c κs. search needs) (λ c. search needs) (λ c. search needs) again (λ c. search needs) returns-2)
+    (tie.spec Inv-loop μ-loop (λ c κs. search needs) (λ c. search needs) (λ c κs. search needs) begin (λ c κs. search needs) (λ c κs. search needs) (λ c κs. search needs) (λ c κs. search needs) (λ c. search needs) returns (λ c κs. search needs) (λ c κs. search needs) (λ c. search needs) (λ c. search needs) again (λ c. search needs) returns-2)
