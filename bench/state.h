@@ -46,37 +46,57 @@ static inline void inv_shift_rows(uint8_t state[BLOCK])
     move(state, 13);
 }
 
-static inline void mix_columns(uint8_t state[BLOCK])
+// A column as a word of 32 bits, its first byte lowest.
+static inline uint32_t column(const uint8_t *s)
 {
-    for (size_t column = 0; column < BLOCK; column += 4) {
-        uint8_t *s = state + column;
-        uint8_t a = s[0], b = s[1], c = s[2], e = s[3];
-        uint8_t a2 = doubles[a], b2 = doubles[b], c2 = doubles[c], e2 = doubles[e];
-        s[0] = a2 ^ b2 ^ b ^ c ^ e;
-        s[1] = b2 ^ c2 ^ c ^ e ^ a;
-        s[2] = c2 ^ e2 ^ e ^ a ^ b;
-        s[3] = e2 ^ a2 ^ a ^ b ^ c;
-    }
+    return s[0] | (uint32_t)s[1] << 8 | (uint32_t)s[2] << 16 | (uint32_t)s[3] << 24;
 }
 
-// To each byte, four times its sum with the byte opposite in its column is added: MixColumns then makes InvMixColumns of it.
-static inline void spread_columns(uint8_t state[BLOCK])
+static inline void put_column(uint8_t *s, uint32_t x)
 {
-    for (size_t column = 0; column < BLOCK; column += 4) {
-        uint8_t *s = state + column;
-        uint8_t even = doubles[doubles[s[0] ^ s[2]]];
-        uint8_t odd = doubles[doubles[s[1] ^ s[3]]];
-        s[0] ^= even;
-        s[1] ^= odd;
-        s[2] ^= even;
-        s[3] ^= odd;
-    }
+    for (size_t i = 0; i < 4; i++)
+        s[i] = (uint8_t)(x >> 8 * i);
+}
+
+static inline uint32_t rot_word(uint32_t x)
+{
+    return x >> 8 | x << 24;
+}
+
+// Four bytes doubled: the bits of each move up by one, and 1b is added where its bit 7 was set.
+static inline uint32_t doubled(uint32_t x)
+{
+    return (x & 0x7f7f7f7f) << 1 ^ (x >> 7 & 0x01010101) * 0x1b;
+}
+
+// The same twice, at once.
+static inline uint32_t fourfold(uint32_t x)
+{
+    return (x & 0x3f3f3f3f) << 2 ^ (x >> 7 & 0x01010101) * 0x36 ^ (x >> 6 & 0x01010101) * 0x1b;
+}
+
+static inline uint32_t mix_column(uint32_t x)
+{
+    uint32_t turned = rot_word(x), sum = x ^ turned;
+    return turned ^ rot_word(rot_word(sum)) ^ doubled(sum);
+}
+
+// To each byte, four times its sum with the byte opposite is added: mixed, that is the inverse.
+static inline uint32_t inv_mix_column(uint32_t x)
+{
+    return mix_column(x ^ fourfold(x ^ rot_word(rot_word(x))));
+}
+
+static inline void mix_columns(uint8_t state[BLOCK])
+{
+    for (size_t i = 0; i < BLOCK; i += 4)
+        put_column(state + i, mix_column(column(state + i)));
 }
 
 static inline void inv_mix_columns(uint8_t state[BLOCK])
 {
-    spread_columns(state);
-    mix_columns(state);
+    for (size_t i = 0; i < BLOCK; i += 4)
+        put_column(state + i, inv_mix_column(column(state + i)));
 }
 
 // Writes a state to a record; gives the place of the next one.
