@@ -8,7 +8,7 @@ use Rattle.aes.specs.Byte.{_⊕_}
 use Rattle.aes.specs.Field.{xTimes, times, _•_}
 use Rattle.aes.specs.State.{at, dot, turned, addRoundKey}
 use Rattle.aes.specs.Key.{wordAt, sumWord, rotWord}
-use Rattle.aes.specs.Word.{wordOf, doubled, product}
+use Rattle.aes.specs.Word.{wordOf, doubled, matrix}
 use Rattle.aes.proofs.Xor.{sums, xor-zero, xor-byte}
 use Rattle.aes.proofs.Words.{word-sum}
 use Rattle.aes.proofs.FieldLaws.{xTimes-xor, product-xor-left, product-xor-right, product-assoc, product-one, product-two, product-three, product-zero-left, product-byte, xTimes-byte}
@@ -69,11 +69,11 @@ dot-one a b c d h = rw (product-one a h, product-zero-left b, product-zero-left 
 -- one matrix after another is their product
 module _ (k0 k1 k2 k3 l0 l1 l2 l3 : ℕ) (hk0 : k0 < 256) (hk1 : k1 < 256) (hk2 : k2 < 256) (hk3 : k3 < 256) (hl0 : l0 < 256)
     (hl1 : l1 < 256) (hl2 : l2 < 256) (hl3 : l3 < 256) where
-  pub product-product : (m0 m1 m2 m3 : ℕ) → dot k0 k1 k2 k3 l0 l3 l2 l1 ≡ m0 → dot k0 k1 k2 k3 l1 l0 l3 l2 ≡ m1
+  pub matrix-matrix : (m0 m1 m2 m3 : ℕ) → dot k0 k1 k2 k3 l0 l3 l2 l1 ≡ m0 → dot k0 k1 k2 k3 l1 l0 l3 l2 ≡ m1
       → dot k0 k1 k2 k3 l2 l1 l0 l3 ≡ m2 → dot k0 k1 k2 k3 l3 l2 l1 l0 ≡ m3
-      → (a : List ℕ) → product k0 k1 k2 k3 (product l0 l1 l2 l3 a) ≡ product m0 m1 m2 m3 a
-  unfolding product
-  product-product m0 m1 m2 m3 e0 e1 e2 e3 a = simp (dot-dot, e0, e1, e2, e3)
+      → (a : List ℕ) → matrix k0 k1 k2 k3 (matrix l0 l1 l2 l3 a) ≡ matrix m0 m1 m2 m3 a
+  unfolding matrix
+  matrix-matrix m0 m1 m2 m3 e0 e1 e2 e3 a = simp (dot-dot, e0, e1, e2, e3)
 
 -- the coefficients of MIXCOLUMNS times 05 00 04 00
 inverse-row : (dot 2 3 1 1 5 0 4 0 ≡ 14) × (dot 2 3 1 1 0 5 0 4 ≡ 11) × (dot 2 3 1 1 4 0 5 0 ≡ 13) × (dot 2 3 1 1 0 4 0 5 ≡ 9)
@@ -82,19 +82,19 @@ inverse-row = (refl, refl, refl, refl)
 
 -- a word times a matrix, by sums, turns and doubles of words
 pub mixed-word : (a : List ℕ) → ((i : ℕ) → at a i < 256)
-    → sumWord (sumWord (rotWord a) (rotWord (rotWord (sumWord a (rotWord a))))) (doubled (sumWord a (rotWord a))) ≡ product 2 3 1 1 a
-unfolding doubled product
+    → sumWord (sumWord (rotWord a) (rotWord (rotWord (sumWord a (rotWord a))))) (doubled (sumWord a (rotWord a))) ≡ matrix 2 3 1 1 a
+unfolding doubled matrix
 mixed-word a h = simp (mixed-is, h)
 
-spread-word : (a : List ℕ) → ((i : ℕ) → at a i < 256) → product 5 0 4 0 a ≡ sumWord a (doubled (doubled (sumWord a (rotWord (rotWord a)))))
-unfolding doubled product
+spread-word : (a : List ℕ) → ((i : ℕ) → at a i < 256) → matrix 5 0 4 0 a ≡ sumWord a (doubled (doubled (sumWord a (rotWord (rotWord a)))))
+unfolding doubled matrix
 spread-word a h = simp (spread-is, h)
 
 pub inv-mixed-word : (a : List ℕ) → ((i : ℕ) → at a i < 256)
-    → product 2 3 1 1 (sumWord a (doubled (doubled (sumWord a (rotWord (rotWord a)))))) ≡ product 14 11 13 9 a
+    → matrix 2 3 1 1 (sumWord a (doubled (doubled (sumWord a (rotWord (rotWord a)))))) ≡ matrix 14 11 13 9 a
 inv-mixed-word a h =
-    ap (product 2 3 1 1) (sym (spread-word a h))
-    ∙ product-product 2 3 1 1 5 0 4 0 (lit< tt) (lit< tt) (lit< tt) (lit< tt) (lit< tt) (lit< tt) (lit< tt) (lit< tt) 14 11 13 9 (inverse-row .0) (inverse-row .1) (inverse-row .2) (inverse-row .3) a
+    ap (matrix 2 3 1 1) (sym (spread-word a h))
+    ∙ matrix-matrix 2 3 1 1 5 0 4 0 (lit< tt) (lit< tt) (lit< tt) (lit< tt) (lit< tt) (lit< tt) (lit< tt) (lit< tt) 14 11 13 9 (inverse-row .0) (inverse-row .1) (inverse-row .2) (inverse-row .3) a
 
 -- a state whose columns, as numbers hold them, are the sums of those of a and b, and one whose columns are those of s times a matrix
 pub sums-are : (a b r : List ℕ) (x0 x1 x2 x3 y0 y1 y2 y3 : ℕ) → r ≡ wordOf (x0 ⊕ y0) ++ wordOf (x1 ⊕ y1) ++ wordOf (x2 ⊕ y2) ++ wordOf (x3 ⊕ y3)
@@ -106,13 +106,13 @@ sums-are a b r x0 x1 x2 x3 y0 y1 y2 y3 e a0 b0 a1 b1 a2 b2 a3 b3 =
     e ∙ λ i. word-sum x0 y0 a0 b0 i ++ word-sum x1 y1 a1 b1 i ++ word-sum x2 y2 a2 b2 i ++ word-sum x3 y3 a3 b3 i
 
 pub columns-are : (k0 k1 k2 k3 : ℕ) (s r : List ℕ) (x0 x1 x2 x3 y0 y1 y2 y3 : ℕ) → r ≡ wordOf y0 ++ wordOf y1 ++ wordOf y2 ++ wordOf y3
-    → wordOf y0 ≡ product k0 k1 k2 k3 (wordOf x0) → wordOf y1 ≡ product k0 k1 k2 k3 (wordOf x1)
-    → wordOf y2 ≡ product k0 k1 k2 k3 (wordOf x2) → wordOf y3 ≡ product k0 k1 k2 k3 (wordOf x3)
+    → wordOf y0 ≡ matrix k0 k1 k2 k3 (wordOf x0) → wordOf y1 ≡ matrix k0 k1 k2 k3 (wordOf x1)
+    → wordOf y2 ≡ matrix k0 k1 k2 k3 (wordOf x2) → wordOf y3 ≡ matrix k0 k1 k2 k3 (wordOf x3)
     → wordOf x0 ≡ wordAt s 0 → wordOf x1 ≡ wordAt s 1 → wordOf x2 ≡ wordAt s 2 → wordOf x3 ≡ wordAt s 3
     → r ≡ turned k0 k1 k2 k3 s
-unfolding product
+unfolding matrix
 columns-are k0 k1 k2 k3 s r x0 x1 x2 x3 y0 y1 y2 y3 e m0 m1 m2 m3 c0 c1 c2 c3 =
     e ∙ (λ i. m0 i ++ m1 i ++ m2 i ++ m3 i) ∙ λ i. mixed (c0 i) ++ mixed (c1 i) ++ mixed (c2 i) ++ mixed (c3 i)
   where
     mixed : List ℕ → List ℕ
-    mixed = product k0 k1 k2 k3
+    mixed = matrix k0 k1 k2 k3

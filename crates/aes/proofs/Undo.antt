@@ -13,12 +13,12 @@ use Rattle.aes.specs.Field.{xTimes, times, _•_}
 use Rattle.aes.specs.Box.{sBox}
 use Rattle.aes.specs.State.{at, cell, ahead, behind, state, square, dot, turned, subBytes, shiftRows, invShiftRows, mixColumns, invMixColumns, addRoundKey, Bytes}
 use Rattle.aes.specs.Key.{wordAt, roundKey}
-use Rattle.aes.specs.Word.{product}
+use Rattle.aes.specs.Word.{matrix}
 use Rattle.aes.proofs.Xor.{sums, xor-byte}
 use Rattle.aes.proofs.Listed.{table-at}
 use Rattle.aes.proofs.Fill.{filled-all}
 use Rattle.aes.proofs.Boxes.{sBox-byte}
-use Rattle.aes.proofs.Columns.{dot-xor, dot-byte, dot-one, product-product}
+use Rattle.aes.proofs.Columns.{dot-xor, dot-byte, dot-one, matrix-matrix}
 
 -- sixteen bytes are the state of them
 pub state-at : (s : List ℕ) → length s ≡ 16 → state (at s) ≡ s
@@ -108,9 +108,9 @@ shift-inv-shift {s} h = state-at s (h .size)
 
 -- one matrix after another, in every column
 turned-turned : (k0 k1 k2 k3 l0 l1 l2 l3 m0 m1 m2 m3 : ℕ)
-    → ((a : List ℕ) → product k0 k1 k2 k3 (product l0 l1 l2 l3 a) ≡ product m0 m1 m2 m3 a)
+    → ((a : List ℕ) → matrix k0 k1 k2 k3 (matrix l0 l1 l2 l3 a) ≡ matrix m0 m1 m2 m3 a)
     → (s : List ℕ) → turned k0 k1 k2 k3 (turned l0 l1 l2 l3 s) ≡ turned m0 m1 m2 m3 s
-unfolding product
+unfolding matrix
 turned-turned k0 k1 k2 k3 l0 l1 l2 l3 m0 m1 m2 m3 each s =
     λ i. each (wordAt s 0) i ++ each (wordAt s 1) i ++ each (wordAt s 2) i ++ each (wordAt s 3) i
 
@@ -130,12 +130,12 @@ pub inv-mix-mix : {s : List ℕ} → Bytes 16 s → invMixColumns (mixColumns s)
 unfolding mixColumns invMixColumns
 inv-mix-mix {s} h =
     turned-turned 14 11 13 9 2 3 1 1 1 0 0 0
-    (product-product 14 11 13 9 2 3 1 1 (lit< tt) (lit< tt) (lit< tt) (lit< tt) (lit< tt) (lit< tt) (lit< tt) (lit< tt) 1 0 0 0 (ones .0) (ones .1) (ones .2) (ones .3)) s
+    (matrix-matrix 14 11 13 9 2 3 1 1 (lit< tt) (lit< tt) (lit< tt) (lit< tt) (lit< tt) (lit< tt) (lit< tt) (lit< tt) 1 0 0 0 (ones .0) (ones .1) (ones .2) (ones .3)) s
     ∙ turned-one h
 
 pub mix-inv-mix : {s : List ℕ} → Bytes 16 s → mixColumns (invMixColumns s) ≡ s
 unfolding mixColumns invMixColumns
 mix-inv-mix {s} h =
     turned-turned 2 3 1 1 14 11 13 9 1 0 0 0
-    (product-product 2 3 1 1 14 11 13 9 (lit< tt) (lit< tt) (lit< tt) (lit< tt) (lit< tt) (lit< tt) (lit< tt) (lit< tt) 1 0 0 0 (ones-back .0) (ones-back .1) (ones-back .2) (ones-back .3)) s
+    (matrix-matrix 2 3 1 1 14 11 13 9 (lit< tt) (lit< tt) (lit< tt) (lit< tt) (lit< tt) (lit< tt) (lit< tt) (lit< tt) 1 0 0 0 (ones-back .0) (ones-back .1) (ones-back .2) (ones-back .3)) s
     ∙ turned-one h

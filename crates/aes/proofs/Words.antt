@@ -3,7 +3,7 @@
 use mathlib.Core.Path.{_≡_, refl, sym, ap, _∙_}
 use mathlib.Core.List.{List, [], _∷_}
 use Prim.Native.Nat.{ℕ, zero, suc, _+_, _*_, _/_, _%_, _^_, _-_, _<_}
-use native.Mathlib.Nat.{add-comm, add-mul, mul-right-comm, div-one, mod-eq-of-lt, mul-le-mul-right, lt-of-le-of-lt}
+use native.Mathlib.Nat.{add-comm, add-mul, mul-comm, mul-right-comm, div-one, mod-eq-of-lt, mul-le-mul-right, lt-of-le-of-lt}
 use native.Mathlib.Omega.{arith}
 use lib.Bits.{bitAnd, and-shr, and-mod, and-mask, and-le-r, xor-shr, xor-mod}
 use lib.Dec.{lit<}
@@ -13,7 +13,9 @@ use Rattle.aes.specs.Field.{xTimes}
 use Rattle.aes.specs.State.{at}
 use Rattle.aes.specs.Key.{word, sumWord, rotWord}
 use Rattle.aes.specs.Word.{wordOf, doubled}
+use Rattle.aes.proofs.Xor.{xor-comm}
 use Rattle.aes.proofs.Listed.{agree}
+use Rattle.aes.proofs.FieldLaws.{xTimes-shift}
 
 -- the number of four bytes, and the byte of a number from bit k on
 abbrev number : ℕ → ℕ → ℕ → ℕ → ℕ
@@ -105,8 +107,10 @@ word-low n k m x h fits mask same small =
 
 -- XTIMES of a byte is its seven low bits moved up, and 1b for bit 7; twice that, six, 36 for bit 7 and 1b for bit 6
 xTimes-bits : (b : ℕ) → b < 256 → bits 0 7 b * 2 ⊕ bits 7 1 b * 0x1b ≡ xTimes b
-unfolding xTimes bits table
-xTimes-bits = agree (λ b. bits 0 7 b * 2 ⊕ bits 7 1 b * 0x1b) xTimes 256 refl
+unfolding bits
+xTimes-bits b h =
+    let low : b / 1 % 128 * 2 ≡ b * 2 % 256 = omega arith in
+    rw (low, mul-comm (b / 128 % 2) 0x1b) (xor-comm (b * 2 % 256) (0x1b * (b / 128 % 2)) ∙ sym (xTimes-shift b h))
 
 xTimes-twice : (b : ℕ) → b < 256 → bits 0 6 b * 4 ⊕ bits 7 1 b * 0x36 ⊕ bits 6 1 b * 0x1b ≡ xTimes (xTimes b)
 unfolding xTimes bits table

@@ -15,5 +15,5 @@ unfoldable pub doubled : List ℕ → List ℕ
 doubled a = word (λ j. xTimes (at a j))
 
 -- the product with the matrix whose first row is k0 k1 k2 k3 and whose next rows are that one turned
-unfoldable pub product : ℕ → ℕ → ℕ → ℕ → List ℕ → List ℕ
-product k0 k1 k2 k3 a = word (λ r. dot k0 k1 k2 k3 (at a r) (at a ((r + 1) % 4)) (at a ((r + 2) % 4)) (at a ((r + 3) % 4)))
+unfoldable pub matrix : ℕ → ℕ → ℕ → ℕ → List ℕ → List ℕ
+matrix k0 k1 k2 k3 a = word (λ r. dot k0 k1 k2 k3 (at a r) (at a ((r + 1) % 4)) (at a ((r + 2) % 4)) (at a ((r + 3) % 4)))

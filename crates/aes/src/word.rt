@@ -3,7 +3,7 @@ ghost use mathlib.Core.Path.{_≡_};
 ghost use mathlib.Core.List.{[], _∷_, _++_};
 ghost use Prim.Native.Nat.{_<_};
 ghost use Rattle.aes.specs.Key.{wordAt, rotWord};
-ghost use Rattle.aes.specs.Word.{wordOf, doubled, product};
+ghost use Rattle.aes.specs.Word.{wordOf, doubled, matrix};
 
 // Column c of a state.
 pub(crate) fn column(s: [u8; 16], c: usize) -> u32
@@ -61,7 +61,7 @@ fn bytes(x: u32) -> [u8; 4]
 
 // A column times the matrix of MixColumns. The first byte of a, b, c, d becomes b + (c + d) + 2 (a + b).
 pub(crate) fn mix_column(x: u32) -> u32
-    ensures { λ r. ⌜ wordOf r ≡ product 2 3 1 1 (wordOf x) ⌝ }
+    ensures { λ r. ⌜ wordOf r ≡ matrix 2 3 1 1 (wordOf x) ⌝ }
 {
     let r = rot_word(x);
     let y = x ^ r;
@@ -70,7 +70,7 @@ pub(crate) fn mix_column(x: u32) -> u32
 
 // A column times the inverse matrix: to each byte, four times its sum with the byte opposite is added, and the column mixed.
 pub(crate) fn inv_mix_column(x: u32) -> u32
-    ensures { λ r. ⌜ wordOf r ≡ product 14 11 13 9 (wordOf x) ⌝ }
+    ensures { λ r. ⌜ wordOf r ≡ matrix 14 11 13 9 (wordOf x) ⌝ }
 {
     let y = x ^ rot_word(rot_word(x));
     mix_column(x ^ fourfold(y))
