@@ -1,11 +1,10 @@
 -- What the reply of a call's checks tells, and what a call that they let pass is lent.
 -- Assumes nothing.
-use mathlib.Core.Path.{_≡_, refl, ap}
+use mathlib.Core.Path.{_≡_, refl, sym, ap, _∙_}
 use mathlib.Core.Bool.{Bool, true, false, cond, not}
 use mathlib.Core.List.{List, [], _∷_, _++_}
-use Prim.Native.Nat.{ℕ, _+_, _*_, _≤_, _<_}
+use Prim.Native.Nat.{ℕ}
 use native.Mathlib.Nat.{zero-add}
-use native.Mathlib.Omega.{arith}
 use lib.Dec.{T, eqb, eqb→eq}
 use lib.ListN.{length}
 use mir.Facts.{and-yes}
@@ -15,18 +14,24 @@ use Rattle.aes.proofs.Undo.{state-at}
 use Rattle.aes.proofs.Replies.{AllHold, telling, nonzero}
 use Rattle.masked.specs.Calls.{checks, publishedChecks, refusal}
 
--- checks that are told together, and what is checked after them
+-- checks that are told together, by the number r, and what is checked after them
 module _ {A : Type 0} (before done : A) (more : List Check) where
-  pub refused : (cs : List Check) → (refusal cs ≡ 0 → ⊥) → answer (cs ++ more) before done ≡ (refusal cs, before)
-  refused [] h = absurd (h refl)
-  refused ((true else reply) ∷ cs) h = refused cs h
-  refused ((false else reply) ∷ cs) h = refl
+  fails : (cs : List Check) → (refusal cs ≡ 0 → ⊥) → (refusal cs, before) ≡ answer (cs ++ more) before done
+  fails [] h = absurd (h refl)
+  fails ((true else reply) ∷ cs) h = fails cs h
+  fails ((false else reply) ∷ cs) h = refl
 
-  pub passed : (cs : List Check) → T (telling cs) → refusal cs ≡ 0 → answer (cs ++ more) before done ≡ answer more before done
+  pub refused : {r : ℕ} (cs : List Check) → r ≡ refusal cs → (r ≡ 0 → ⊥) → (r, before) ≡ answer (cs ++ more) before done
+  refused cs told h = ap (λ (n : ℕ). (n, before)) told ∙ fails cs (λ e. h (told ∙ e))
+
+  hold : (cs : List Check) → T (telling cs) → refusal cs ≡ 0 → answer more before done ≡ answer (cs ++ more) before done
   unfolding telling
-  passed [] t e = refl
-  passed ((true else reply) ∷ cs) t e = passed cs (and-yes (not (eqb reply 0)) (telling cs) t .1) e
-  passed ((false else reply) ∷ cs) t e = absurd (nonzero reply (and-yes (not (eqb reply 0)) (telling cs) t .0) e)
+  hold [] t e = refl
+  hold ((true else reply) ∷ cs) t e = hold cs (and-yes (not (eqb reply 0)) (telling cs) t .1) e
+  hold ((false else reply) ∷ cs) t e = absurd (nonzero reply (and-yes (not (eqb reply 0)) (telling cs) t .0) e)
+
+  pub passed : {r : ℕ} (cs : List Check) → T (telling cs) → r ≡ refusal cs → r ≡ 0 → answer more before done ≡ answer (cs ++ more) before done
+  passed cs t told e = hold cs t (sym told ∙ e)
 
 -- what is not refused has passed every check
 pub all-hold : (cs : List Check) → T (telling cs) → refusal cs ≡ 0 → AllHold cs
@@ -64,10 +69,10 @@ pub record Sizes (w b out M : List ℕ) : Type 0 where
   pub output : length out ≡ 16
   pub masks : length M ≡ 16
 
-pub sizes : (w b out M : List ℕ) (o form : ℕ) → refusal (checks w b out M o form) ≡ 0 → Sizes w b out M
+pub sizes : (w b out M : List ℕ) (o form : ℕ) {r : ℕ} → r ≡ refusal (checks w b out M o form) → r ≡ 0 → Sizes w b out M
 unfolding AllHold telling
-sizes w b out M o form e =
-    let h = all-hold (checks w b out M o form) tt e in
+sizes w b out M o form told e =
+    let h = all-hold (checks w b out M o form) tt (sym told ∙ e) in
     record {
       schedule = eqb→eq (length w) 240 (h .0);
       input = eqb→eq (length b) 16 (h .1 .0);
@@ -79,6 +84,3 @@ sizes w b out M o form e =
 pub all-sixteen : (xs : List ℕ) → length xs ≡ 16 → roundKey xs 0 ≡ xs
 unfolding roundKey
 all-sixteen xs l = simp zero-add (state-at xs l)
-
-pub room : (xs : List ℕ) → length xs ≡ 16 → (0 < 16) × (16 * 0 + 16 ≤ length xs)
-room xs l = (omega arith, omega (arith, l))

@@ -75,14 +75,14 @@ pub after-written : {f : Point → List ℕ → List ℕ} → Sized f → {s t t
     → Written f s 1136 (block ∷ turns after (n + 1)) t′ (back xs (16 * n + 16) (16 * n + 16 + 16 - (16 * n + 16)) ys)
 after-written size l n lt w et ey = written-turn size l after 16 (λ i. refl) n (omega (arith, lt)) w (recorded-one et ey)
 
--- what is known of the record after n of the seventy points behind the block
-pub recorded-so-far : {f : Point → List ℕ → List ℕ} {s t xs : List ℕ} {n : ℕ} → n ≤ 70 → length s ≡ 16 → Written f s 1136 (block ∷ turns after n) t xs
-    → (n ≤ 70) × (length s ≡ 16) × (length xs ≡ 1136) × Written f s 1136 (block ∷ turns after n) t xs
+-- what is known of the record after n of the points behind the block: all but the last are gone through in turns
+pub recorded-so-far : {f : Point → List ℕ → List ℕ} {s t xs : List ℕ} {n : ℕ} → n ≤ 69 → length s ≡ 16 → Written f s 1136 (block ∷ turns after n) t xs
+    → (n ≤ 69) × (length s ≡ 16) × (length xs ≡ 1136) × Written f s 1136 (block ∷ turns after n) t xs
 recorded-so-far le l w = (le, l, w .held .size, w)
 
 -- before the first of them the covered block stands in it
 pub recorded-block : {f : Point → List ℕ → List ℕ} → Sized f → {s t ys : List ℕ} → length s ≡ 16 → (xs : List ℕ) → length xs ≡ 1136 → t ≡ f block s → ys ≡ t
-    → (0 ≤ 70) × (length s ≡ 16) × (length (back xs 0 16 ys) ≡ 1136) × Written f s 1136 (block ∷ turns after 0) t (back xs 0 16 ys)
+    → (0 ≤ 69) × (length s ≡ 16) × (length (back xs 0 16 ys) ≡ 1136) × Written f s 1136 (block ∷ turns after 0) t (back xs 0 16 ys)
 recorded-block h l xs room et ey = recorded-so-far (lit≤ tt) l (written-block h l xs room et ey)
 
 -- labels are counted modulo 16
@@ -176,12 +176,12 @@ module _ {M w : List ℕ} (hM : Bytes 16 M) (hw : Bytes 240 w) (form o : ℕ) wh
       rw (lent-is p (d .0) s h) (ap (λ (u : List (List ℕ)). covered form M o w p s ∷ u) (run-is ps (d .1) (covered form M o w p s) (covered-bytes p h)))
 
   -- what a run of the steps records, where it is lent the right tables and starts from the covered block
-  pub lent-record : {input : List ℕ} → Bytes 16 input → (s b c end : List ℕ) → s ≡ input ⊞ mask M ((o + 0) % 16) → b ≡ maskedBoxes M
+  pub lent-record : {input : List ℕ} → Bytes 16 input → (s b c end : List ℕ) → s ≡ input ⊞ mask M (o % 16) → b ≡ maskedBoxes M
       → c ≡ allCompensations M → end ≡ ending form (mask M ((o + 14) % 16))
       → run (steps w b c o end) s (points 14) ≡ maskedRecord 14 form M o w input
   unfolding maskedRecord points wholes all-due due covered
   lent-record {input} h s b c end es eb ec ee =
-      let start : s ≡ input ⊞ mask M o = es ∙ ap (λ (m : List ℕ). input ⊞ m) (mask-turn M ((o + 0) % 16) o (omega arith)) in
+      let start : s ≡ input ⊞ mask M o = es ∙ ap (λ (m : List ℕ). input ⊞ m) (mask-turn M (o % 16) o (omega arith)) in
       (λ i. run (steps w (eb i) (ec i) o (ee i)) (start i) (points 14))
       ∙ run-block (input ⊞ mask M o) (wholes 13 ++ final 13)
       ∙ ap (λ (u : List (List ℕ)). (input ⊞ mask M o) ∷ u) (run-is (wholes 13 ++ final 13) tt (input ⊞ mask M o) (add-bytes h (mask-bytes o)))

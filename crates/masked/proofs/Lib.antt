@@ -1,8 +1,10 @@
 pub mod Row
 pub mod Store
 pub mod Endings
+pub mod Labels
 pub mod LentSteps
 pub mod Ordered
+pub mod Owned
 pub mod Checked
 pub mod Batch
 pub mod Headed

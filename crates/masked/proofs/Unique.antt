@@ -1,10 +1,10 @@
 -- Uniqueness: whatever the arguments, a call's promise allows one reply and one content of the lent buffer.
 -- Assumes nothing.
 use Rattle.aes.proofs.Unique.{UniqueWriting, both}
-use Rattle.masked.proofs.encrypt.encrypt_masked.Reads as encrypt-masked
-use Rattle.masked.proofs.encrypt.encrypt_published.Reads as encrypt-published
-use Rattle.masked.proofs.many.encrypt_blocks.Reads as encrypt-blocks
-use Rattle.masked.proofs.record.record_masked.Reads as record-masked
+use Rattle.masked.proofs.calls.encrypt.encrypt_masked.Reads as encrypt-masked
+use Rattle.masked.proofs.calls.encrypt.encrypt_published.Reads as encrypt-published
+use Rattle.masked.proofs.calls.many.encrypt_blocks.Reads as encrypt-blocks
+use Rattle.masked.proofs.calls.record.record_masked.Reads as record-masked
 use Rattle.masked.proofs.sheet.read_sheet.Reads as read-sheet
 use Rattle.masked.proofs.sheet.write_sheet.Reads as write-sheet
 

@@ -10,10 +10,21 @@ pub(crate) struct Round(usize);
 pub(crate) struct Label(usize);
 
 impl Position {
-    pub(crate) fn at(i: usize) -> Position
-        ensures { λ p. ⌜ p .0 ≡ i ⌝ }
+    pub(crate) const FIRST: Position = Position(0);
+
+    // The one that an entry of a list names.
+    pub(crate) fn listed(entry: u8) -> Position
+        ensures { λ p. ⌜ p .0 ≡ entry ⌝ }
     {
-        Position(i)
+        Position(entry as usize)
+    }
+
+    // The position that follows.
+    pub(crate) fn next(self) -> Position
+        requires { ⌜ self .0 < 16 ⌝ }
+        ensures { λ p. ⌜ p .0 ≡ self .0 + 1 ⌝ }
+    {
+        Position(self.0 + 1)
     }
 
     // Which byte of a state stands there.
@@ -27,16 +38,15 @@ impl Position {
 impl Round {
     pub(crate) const FIRST: Round = Round(0);
 
-    // The one without MixColumns.
-    pub(crate) const LAST: Round = Round(13);
-
     // How many there are: after the last, one key more is added and one mask more is left.
     pub(crate) const END: Round = Round(14);
 
-    pub(crate) fn number(r: usize) -> Round
-        ensures { λ k. ⌜ k .0 ≡ r ⌝ }
+    // The round that follows.
+    pub(crate) fn next(self) -> Round
+        requires { ⌜ self .0 < 14 ⌝ }
+        ensures { λ r. ⌜ r .0 ≡ self .0 + 1 ⌝ }
     {
-        Round(r)
+        Round(self.0 + 1)
     }
 
     // Which sixteen bytes of a schedule are the round's key.
@@ -50,12 +60,11 @@ impl Round {
 impl Label {
     pub(crate) const FIRST: Label = Label(0);
 
-    // The label of byte 0 in a round: offset and round together.
-    pub(crate) fn make(offset: u8, r: Round) -> Label
-        requires { ⌜ r .0 < 15 ⌝ }
-        ensures { λ l. ⌜ l .0 ≡ (offset + r .0) % 16 ⌝ }
+    // The label of byte 0 before the first round.
+    pub(crate) fn make(offset: u8) -> Label
+        ensures { λ l. ⌜ l .0 ≡ offset % 16 ⌝ }
     {
-        Label((offset as usize + r.0) % 16)
+        Label(offset as usize % 16)
     }
 
     // The label that follows.

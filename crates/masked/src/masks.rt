@@ -1,11 +1,10 @@
 // The published masks of document 002, and the constants that are made of masks.
 ghost use mathlib.Core.Path.{_≡_};
-ghost use Prim.Native.Nat.{_+_, _%_, _<_};
+ghost use Prim.Native.Nat.{_<_};
 ghost use Rattle.masked.specs.Mask.{published, mask, compensation, allCompensations, ending};
 use crate::blocks::keep;
 use crate::label::Label;
 use crate::label::Position;
-use crate::label::Round;
 use aes::add;
 use aes::mix_columns;
 use aes::shift_rows;
@@ -51,19 +50,20 @@ pub(crate) fn mask(masks: [u8; 16], l: Label) -> [u8; 16]
     ensures { λ r. ⌜ r ≡ mask masks (l .0) ⌝ }
 {
     let mut r = [0u8; 16];
-    let mut i = 0;
-    while i < 16 {
-        r[i] = masks[l.over(Position::at(i)).read()];
-        i += 1;
+    let mut p = Position::FIRST;
+    while p.read() < 16 {
+        let i = p.read();
+        r[i] = masks[l.over(p).read()];
+        let next = p.next();
+        p = next;
     }
     r
 }
 
-// The last constant of a run at an offset, by the mask that covers its finished block.
-pub(crate) fn ending(form: u8, masks: [u8; 16], offset: u8) -> [u8; 16]
-    ensures { λ r. ⌜ r ≡ ending form (mask masks ((offset + 14) % 16)) ⌝ }
+// The last constant of a run, by the mask that covers its finished block.
+pub(crate) fn ending(form: u8, m: [u8; 16]) -> [u8; 16]
+    ensures { λ r. ⌜ r ≡ ending form m ⌝ }
 {
-    let m = mask(masks, Label::make(offset, Round::END));
     if form == 0 {
         return shift_rows(m);
     }

@@ -1,9 +1,9 @@
-// The boxes of a round, called in the order that document 002 has: even positions first. So, with the published masks, what a box
+// The order in which the boxes of a round are called, document 002's: even positions first. So, with the published masks, what a box
 // gives and what the next one takes never lie under one mask.
 ghost use mathlib.Core.Path.{_≡_};
-ghost use Prim.Native.Nat.{_<_};
+ghost use Prim.Native.Nat.{_+_, _<_};
 ghost use Rattle.aes.specs.State.{at};
-ghost use Rattle.masked.specs.Order.{boxOrder};
+ghost use Rattle.masked.specs.Order.{boxOrder, called};
 ghost use Rattle.masked.specs.Lent.{boxedBy};
 use crate::boxes::entry;
 use crate::label::Label;
@@ -12,34 +12,48 @@ use crate::label::Position;
 const ORDER: [u8; 16] = *b"\
 \x00\x02\x04\x06\x08\x0a\x0c\x0e\x01\x03\x05\x07\x09\x0b\x0d\x0f";
 
-fn positions() -> [u8; 16]
+pub(crate) fn positions() -> [u8; 16]
     ensures { λ r. ⌜ r ≡ boxOrder ⌝ }
 {
     ORDER
 }
 
-// The position whose box is called after k others.
-fn called(order: &[u8; 16], k: usize) -> Position
-    requires { ⌜ (now order ≡ boxOrder) × (k < 16) ⌝ }
-    ensures { λ p. ⌜ (p .0 ≡ at boxOrder k) × (p .0 < 16) ⌝ }
-{
-    Position::at(order[k] as usize)
-}
+// How many boxes of a round have been called. Only a call counts on, so that no box comes before its turn.
+pub(crate) struct Turn(usize);
 
-// What the boxes answer to a covered state, box l + i to byte i. It is apart from the step, so that the compiler has the list's
-// entries as constants before it lays out a round.
-pub(crate) fn answers(s: [u8; 16], boxes: &[u8; 4096], l: Label) -> [u8; 16]
-    requires { ⌜ l .0 < 16 ⌝ }
-    ensures { λ t. ⌜ t ≡ boxedBy (now (boxes .entry)) (l .0) s ⌝ }
-{
-    let order = positions();
-    let mut t = [0u8; 16];
-    let mut k = 0;
-    while k < 16 {
-        let p = called(&order, k);
+impl Turn {
+    pub(crate) const FIRST: Turn = Turn(0);
+
+    pub(crate) fn read(self) -> usize
+        ensures { λ k. ⌜ k ≡ self .0 ⌝ }
+    {
+        self.0
+    }
+
+    // Has the byte of s at the next position of the list answered by the box over it, and gives the turn that follows.
+    pub(crate) fn call(
+        self,
+        t: &mut [u8; 16],
+        order: &[u8; 16],
+        s: &[u8; 16],
+        boxes: &[u8; 4096],
+        l: Label,
+    ) -> Turn
+        requires { ⌜ (now order ≡ boxOrder) × (l .0 < 16) × (self .0 < 16) ⌝ }
+        ensures { λ next. ⌜ (now (t .exit) ≡ called (boxedBy (now (boxes .entry)) (l .0) (now (s .entry))) (self .0) (now (t .entry))) × (next .0 ≡ self .0 + 1) ⌝ }
+    {
+        let p = self.position(order);
         let i = p.read();
         t[i] = entry(boxes, l.over(p), s[i]);
-        k += 1;
+        Turn(self.0 + 1)
     }
-    t
+
+    // The position whose turn it is.
+    fn position(self, order: &[u8; 16]) -> Position
+        requires { ⌜ (now order ≡ boxOrder) × (self .0 < 16) ⌝ }
+        ensures { λ p. ⌜ (p .0 ≡ at boxOrder (self .0)) × (p .0 < 16) ⌝ }
+    {
+        let k = self.0;
+        Position::listed(order[k])
+    }
 }

@@ -1,162 +1,128 @@
 // Masked runs, made of the steps alone: recorded, where each step is lent its part of the record, and unrecorded, where it is lent
 // a scratch.
 ghost use mathlib.Core.Path.{_≡_};
-ghost use Prim.Native.Nat.{suc, _+_, _%_, _<_};
+ghost use mathlib.Core.List.{List};
+ghost use Prim.Native.Nat.{ℕ, _+_, _/_, _%_, _<_};
 ghost use lib.ListN.{length};
 ghost use Rattle.aes.specs.State.{shiftRows, mixColumns};
 ghost use Rattle.aes.specs.Key.{roundKey};
 ghost use Rattle.aes.specs.Record.{bytes};
-ghost use Rattle.masked.specs.Mask.{_⊞_, mask, maskedBoxes, allCompensations};
+ghost use Rattle.masked.specs.Mask.{_⊞_, maskedBoxes, allCompensations};
 ghost use Rattle.masked.specs.Run.{maskedRecord, maskedCipher};
 ghost use Rattle.masked.specs.Lent.{boxedBy, steps, pointAfter};
-use crate::blocks::sixteen;
-use crate::label::Label;
-use crate::label::Round;
-use crate::masks::ending;
-use crate::masks::mask;
-use crate::steps::add_key;
-use crate::steps::boxes;
-use crate::steps::compensate;
-use crate::steps::cover;
-use crate::steps::mix_columns;
-use crate::steps::shift_rows;
-use crate::steps::uncover;
+
+mod steps;
+
+use crate::calls::lent::Block;
+use crate::calls::lent::Masks;
+use steps::Covered;
+use steps::add_key;
+use steps::boxes;
+use steps::compensate;
+use steps::cover;
+use steps::mix_columns;
+use steps::shift_rows;
+use steps::uncover;
 
 // The 71 states, in form 0.
 pub(crate) fn recorded(
-    input: &[u8],
+    block: Block,
     w: &[u8],
-    masks: [u8; 16],
+    masks: Masks,
     boxes: &[u8; 4096],
     compensations: &[u8; 256],
     offset: u8,
     states: &mut [u8],
 )
-    requires { ⌜ (length (now input) ≡ 16) × (length (now w) ≡ 240) × (now boxes ≡ maskedBoxes masks) × (now compensations ≡ allCompensations masks) × (length (now states) ≡ 1136) ⌝ }
-    ensures { λ _. ⌜ now (states .exit) ≡ bytes (maskedRecord 14 0 masks offset (now (w .entry)) (now (input .entry))) ⌝ }
+    requires { ⌜ (length (now w) ≡ 240) × (now boxes ≡ maskedBoxes (masks .0)) × (now compensations ≡ allCompensations (masks .0)) × (length (now states) ≡ 1136) ⌝ }
+    ensures { λ _. ⌜ now (states .exit) ≡ bytes (maskedRecord 14 0 (masks .0) offset (now (w .entry)) (block .0)) ⌝ }
 {
-    let end = ending(0, masks, offset);
-    let mut s = cover(
-        sixteen(input, 0),
-        mask(masks, Label::make(offset, Round::FIRST)),
-        &mut states[0..16],
-    );
+    let mut s = cover(block, masks, offset, &mut states[0..16]);
     let mut n = 0;
-    while n < 70 {
+    while n < 69 {
         let a = 16 * n + 16;
         let e = a + 16;
-        let t = point(
-            s,
-            w,
-            boxes,
-            compensations,
-            offset,
-            end,
-            n,
-            &mut states[a..e],
-        );
+        let t = point(s, w, masks, boxes, compensations, n, &mut states[a..e]);
         s = t;
         n += 1;
     }
+    uncover(s, masks, 0, &mut states[1120..1136]);
 }
 
-// The finished block alone, in either form. The last two steps are lent the output, and all before them a scratch.
+// The finished block alone, in either form. The last step is lent the output, and all before it a scratch.
 pub(crate) fn unrecorded(
-    input: &[u8],
+    block: Block,
     w: &[u8],
-    masks: [u8; 16],
+    masks: Masks,
     boxes: &[u8; 4096],
     compensations: &[u8; 256],
     offset: u8,
     form: u8,
     output: &mut [u8],
 )
-    requires { ⌜ (length (now input) ≡ 16) × (length (now w) ≡ 240) × (now boxes ≡ maskedBoxes masks) × (now compensations ≡ allCompensations masks) × (length (now output) ≡ 16) ⌝ }
-    ensures { λ _. ⌜ now (output .exit) ≡ maskedCipher 14 form masks offset (now (w .entry)) (now (input .entry)) ⌝ }
+    requires { ⌜ (length (now w) ≡ 240) × (now boxes ≡ maskedBoxes (masks .0)) × (now compensations ≡ allCompensations (masks .0)) × (length (now output) ≡ 16) ⌝ }
+    ensures { λ _. ⌜ now (output .exit) ≡ maskedCipher 14 form (masks .0) offset (now (w .entry)) (block .0) ⌝ }
 {
-    let end = ending(form, masks, offset);
     let mut part = [0u8; 16];
-    let mut s = covered(input, masks, offset, &mut part);
-    let mut r = 0;
-    while r < 14 {
-        let t = half(s, w, boxes, offset, Round::number(r));
-        if r == 13 {
-            let u = add_key(t, w, Round::END, output);
-            uncover(u, end, output);
+    let mut s = cover(block, masks, offset, &mut part);
+    loop {
+        let t = half(s, w, masks, boxes);
+        if t.finished() {
+            let mut part = [0u8; 16];
+            let u = add_key(t, w, &mut part);
+            uncover(u, masks, form, output);
             return;
         }
-        let u = rest(t, compensations, offset, Round::number(r));
+        let u = rest(t, masks, compensations);
         s = u;
-        r += 1;
     }
 }
 
-// The block under the first mask, where nothing is recorded. It has one caller, as the parts of a round have.
-fn covered(input: &[u8], masks: [u8; 16], offset: u8, part: &mut [u8]) -> [u8; 16]
-    requires { ⌜ (length (now input) ≡ 16) × (length (now part) ≡ 16) ⌝ }
-    ensures { λ t. ⌜ (t ≡ now (input .entry) ⊞ mask masks ((offset + 0) % 16)) × (now (part .exit) ≡ t) ⌝ }
-{
-    cover(
-        sixteen(input, 0),
-        mask(masks, Label::make(offset, Round::FIRST)),
-        part,
-    )
-}
-
-// The step at point n after the covered block, five to a round; the last round is closed and uncovered.
+// The step at point n after the covered block, five to a round; the last round is closed. The last point uncovers, and is apart.
 fn point(
-    s: [u8; 16],
+    s: Covered,
     w: &[u8],
+    masks: Masks,
     lent: &[u8; 4096],
     compensations: &[u8; 256],
-    offset: u8,
-    end: [u8; 16],
     n: usize,
     part: &mut [u8],
-) -> [u8; 16]
-    requires { ⌜ (n < 70) × (length (now w) ≡ 240) × (length (now part) ≡ 16) ⌝ }
-    ensures { λ t. ⌜ (t ≡ steps (now (w .entry)) (now (lent .entry)) (now (compensations .entry)) offset end (pointAfter n) s) × (now (part .exit) ≡ t) ⌝ }
+) -> Covered
+    requires { ⌜ (n < 69) × (s .label .0 < 16) × (s .round .0 ≡ (n + 3) / 5) × (length (now w) ≡ 240) × (now lent ≡ maskedBoxes (masks .0)) × (now compensations ≡ allCompensations (masks .0)) × (length (now part) ≡ 16) ⌝ }
+    ensures { λ t. ⌜ ((o : ℕ) (end : List ℕ) → s .label .0 ≡ (o + s .round .0) % 16 → (t .bytes ≡ steps (now (w .entry)) (now (lent .entry)) (now (compensations .entry)) o end (pointAfter n) (s .bytes)) × (t .label .0 ≡ (o + t .round .0) % 16)) × (t .round .0 ≡ (n + 4) / 5) × (now (part .exit) ≡ t .bytes) ⌝ }
 {
-    let r = Round::number(n / 5);
-    let l = Label::make(offset, r);
-    let m = l.next();
     match n % 5 {
-        0 => add_key(s, w, r, part),
-        1 => boxes(s, lent, l, part),
+        0 => add_key(s, w, part),
+        1 => boxes(s, masks, lent, part),
         2 => shift_rows(s, part),
         3 => {
             if n == 68 {
-                return add_key(s, w, Round::END, part);
+                return add_key(s, w, part);
             }
             mix_columns(s, part)
         }
-        _ => {
-            if n == 69 {
-                return uncover(s, end, part);
-            }
-            compensate(s, compensations, m, part)
-        }
+        _ => compensate(s, masks, compensations, part),
     }
 }
 
 // What every round begins with, where nothing is recorded: key, boxes and ShiftRows. It has one caller, and is apart from the
 // recorded points, so that the compiler sees that what the steps write here is never read.
-fn half(s: [u8; 16], w: &[u8], lent: &[u8; 4096], offset: u8, r: Round) -> [u8; 16]
-    requires { ⌜ (r .0 < 14) × (length (now w) ≡ 240) ⌝ }
-    ensures { λ t. ⌜ t ≡ shiftRows (boxedBy (now (lent .entry)) ((offset + r .0) % 16) (s ⊞ roundKey (now (w .entry)) (r .0))) ⌝ }
+fn half(s: Covered, w: &[u8], masks: Masks, lent: &[u8; 4096]) -> Covered
+    requires { ⌜ (s .label .0 < 16) × (s .round .0 < 14) × (length (now w) ≡ 240) × (now lent ≡ maskedBoxes (masks .0)) ⌝ }
+    ensures { λ t. ⌜ (t .bytes ≡ shiftRows (boxedBy (now (lent .entry)) (s .label .0) (s .bytes ⊞ roundKey (now (w .entry)) (s .round .0)))) × (t .label .0 ≡ (s .label .0 + 1) % 16) × (t .round .0 ≡ s .round .0 + 1) ⌝ }
 {
     let mut part = [0u8; 16];
-    let t = add_key(s, w, r, &mut part);
-    let u = boxes(t, lent, Label::make(offset, r), &mut part);
+    let t = add_key(s, w, &mut part);
+    let u = boxes(t, masks, lent, &mut part);
     shift_rows(u, &mut part)
 }
 
 // What a whole round ends with: MixColumns and compensation.
-fn rest(s: [u8; 16], compensations: &[u8; 256], offset: u8, r: Round) -> [u8; 16]
-    requires { ⌜ r .0 < 13 ⌝ }
-    ensures { λ t. ⌜ t ≡ mixColumns s ⊞ roundKey (now (compensations .entry)) ((offset + suc (r .0)) % 16) ⌝ }
+fn rest(s: Covered, masks: Masks, compensations: &[u8; 256]) -> Covered
+    requires { ⌜ (s .label .0 < 16) × (now compensations ≡ allCompensations (masks .0)) ⌝ }
+    ensures { λ t. ⌜ (t .bytes ≡ mixColumns (s .bytes) ⊞ roundKey (now (compensations .entry)) (s .label .0)) × (t .label .0 ≡ s .label .0) × (t .round .0 ≡ s .round .0) ⌝ }
 {
     let mut part = [0u8; 16];
     let t = mix_columns(s, &mut part);
-    compensate(t, compensations, Label::make(offset, r).next(), &mut part)
+    compensate(t, masks, compensations, &mut part)
 }

@@ -4,25 +4,20 @@ use mathlib.Core.List.{List}
 use mathlib.Core.Path.{_∙_, ap}
 use Prim.Native.Nat.{ℕ}
 use borrow.Author.Needs.{needs}
-use Rattle.masked.specs.Mask.{_⊞_, mask, ending}
+use Rattle.masked.specs.Mask.{_⊞_}
 use Rattle.masked.proofs.Endings.{ending-standard, ending-printed}
 use Rattle.masked.proofs.masks.ending.Statement.{statement}
 use Rattle.masked.proofs.masks.ending.Tie as tie
 
 returns : tie.Need-returns
 returns c =
-    let covering = c .before .before in
-    let a = covering .before .before .args in
-    c .shift-rows .ensures ∙ ending-standard (a .form) (covering .mask .result) (search needs)
-    ∙ ap (ending (a .form)) (covering .mask .ensures ∙ ap (mask (a .masks)) (covering .before .make .ensures))
+    let a = c .before .before .args in
+    c .shift-rows .ensures ∙ ending-standard (a .form) (a .m) (search needs)
 
 returns-2 : tie.Need-returns-2
 returns-2 c =
-    let covering = c .before .before .before in
-    let m : List ℕ = covering .mask .result in
-    let a = covering .before .before .args in
-    c .add .ensures ∙ ap (λ (s : List ℕ). m ⊞ s) (c .before .shift-rows2 .ensures) ∙ ending-printed (a .form) m (search needs)
-    ∙ ap (ending (a .form)) (covering .mask .ensures ∙ ap (mask (a .masks)) (covering .before .make .ensures))
+    let a = c .before .before .before .args in
+    c .add .ensures ∙ ap (λ (s : List ℕ). a .m ⊞ s) (c .before .shift-rows2 .ensures) ∙ ending-printed (a .form) (a .m) (search needs)
 
 pub ending-spec : {M : Type 1} → statement M
-ending-spec = tie.close (tie.spec (λ c κs. search needs) (λ c κs. search needs) (λ c κs. search needs) returns (λ c κs. search needs) (λ c κs. search needs) returns-2)
+ending-spec = tie.close (tie.spec (λ c κs. search needs) returns (λ c κs. search needs) (λ c κs. search needs) returns-2)

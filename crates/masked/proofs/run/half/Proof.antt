@@ -1,6 +1,7 @@
 -- Three steps, one after the other.
 -- Assumes nothing.
 use mathlib.Core.Path.{_∙_, ap}
+use Prim.Native.Nat.{ℕ, _+_, _%_}
 use borrow.Author.Needs.{needs}
 use Rattle.aes.specs.State.{shiftRows}
 use Rattle.masked.specs.Lent.{boxedBy}
@@ -9,12 +10,17 @@ use Rattle.masked.proofs.run.half.Tie as tie
 
 returns : tie.Need-returns
 returns c =
-    let k3 = c .before in
-    let k2 = k3 .before .before .before in
-    let make = k2 .before .before in
-    let k1 = make .before .before in
-    let a = k1 .before .before .before .args in
-    k3 .shift-rows .ensures .0 ∙ ap shiftRows (k2 .boxes .ensures .0 ∙ λ i. boxedBy (a .lent .now) (make .make .ensures i) (k1 .add-key .ensures .0 i))
+    let shifted = c .before in
+    let boxed = shifted .before .before .before in
+    let keyed = boxed .before .before .before in
+    let a = keyed .before .before .before .args in
+    let k = keyed .add-key .ensures in
+    let s = shifted .shift-rows .ensures in
+    let t = boxed .boxes .ensures in (
+      s .0 ∙ ap shiftRows (t .0 ∙ λ i. boxedBy (a .lent .now) (k .1 i) (k .0 i)),
+      s .1 ∙ t .1 ∙ ap (λ (l : ℕ). (l + 1) % 16) (k .1),
+      s .2 ∙ t .2 ∙ ap (λ (r : ℕ). r + 1) (k .2),
+    )
 
 pub half-spec : {M : Type 1} → statement M
-half-spec = tie.close (tie.spec (λ c. search needs) (λ c κs. search needs) (λ c κs. search needs) (λ c. search needs) (λ c κs. search needs) (λ c. search needs) (λ c κs. search needs) returns)
+half-spec = tie.close (tie.spec (λ c. search needs) (λ c κs. search needs) (λ c. search needs) (λ c κs. search needs) (λ c. search needs) (λ c κs. search needs) returns)

@@ -1,0 +1,18 @@
+-- What the boxes answer under the label of the masks, and that it is kept.
+-- Assumes nothing.
+use mathlib.Core.Path.{_∙_}
+use borrow.Author.Needs.{needs}
+use Rattle.masked.proofs.run.steps.boxes.Statement.{statement}
+use Rattle.masked.proofs.run.steps.boxes.Tie as tie
+
+returns : tie.Need-returns
+returns c =
+    let kept = c .before .before in
+    let answers = kept .before .before in
+    let round = answers .before in
+    let label = round .before in
+    let k = kept .kept .ensures in
+    (k .0 ∙ answers .answers .ensures, k .1 ∙ label .next .ensures, k .2 ∙ round .next2 .ensures, k .3)
+
+pub boxes-spec : {M : Type 1} → statement M
+boxes-spec = tie.close (tie.spec (λ c κs. search needs) (λ c κs. search needs) (λ c κs. search needs) (λ c κs. search needs) (λ c. search needs) returns)

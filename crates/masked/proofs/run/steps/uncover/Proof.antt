@@ -1,0 +1,21 @@
+-- The last constant, the sum with it, and that it is kept.
+-- Assumes nothing.
+use mathlib.Core.List.{List}
+use mathlib.Core.Path.{ap, _∙_}
+use Prim.Native.Nat.{ℕ}
+use borrow.Author.Needs.{needs}
+use Rattle.masked.specs.Mask.{_⊞_, ending}
+use Rattle.masked.proofs.run.steps.uncover.Statement.{statement}
+use Rattle.masked.proofs.run.steps.uncover.Tie as tie
+
+returns : tie.Need-returns
+returns c =
+    let kept = c .before .before in
+    let add = kept .before .before in
+    let ended = add .before in
+    let a = ended .before .before .before .before .args in
+    let constant = ended .ending .ensures ∙ ap (ending (a .form)) (ended .before .mask .ensures) in
+    kept .keep .ensures .1 ∙ kept .keep .ensures .0 ∙ add .add .ensures ∙ ap (λ (k : List ℕ). a .s .bytes ⊞ k) constant
+
+pub uncover-spec : {M : Type 1} → statement M
+uncover-spec = tie.close (tie.spec (λ c κs. search needs) (λ c κs. search needs) (λ c κs. search needs) (λ c κs. search needs) (λ c. search needs) returns)

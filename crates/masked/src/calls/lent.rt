@@ -1,0 +1,73 @@
+// What a masked call is lent, each a type that the calls alone make: the block, and the masks. A run has none but those that it is
+// given, and is told nothing of them but what is made here.
+ghost use mathlib.Core.Path.{_≡_};
+ghost use Prim.Native.Nat.{_<_};
+ghost use lib.ListN.{length};
+ghost use Rattle.masked.specs.Mask.{published, _⊞_, mask, maskedBoxes, allCompensations};
+use crate::blocks::sixteen;
+use crate::boxes;
+use crate::label::Label;
+use crate::masks;
+use aes::add;
+
+// A block, bare.
+pub(crate) struct Block([u8; 16]);
+
+// Sixteen masks.
+pub(crate) struct Masks([u8; 16]);
+
+impl Block {
+    pub(super) fn lent(input: &[u8]) -> Block
+        requires { ⌜ length (now input) ≡ 16 ⌝ }
+        ensures { λ b. ⌜ b .0 ≡ now (input .entry) ⌝ }
+    {
+        Block(sixteen(input, 0))
+    }
+
+    // Under Mask(l).
+    pub(crate) fn under(self, masks: Masks, l: Label) -> [u8; 16]
+        requires { ⌜ l .0 < 16 ⌝ }
+        ensures { λ r. ⌜ r ≡ self .0 ⊞ mask (masks .0) (l .0) ⌝ }
+    {
+        let b = self.0;
+        add(b, masks.mask(l))
+    }
+}
+
+impl Masks {
+    pub(super) fn published() -> Masks
+        ensures { λ m. ⌜ m .0 ≡ published ⌝ }
+    {
+        Masks(masks::published())
+    }
+
+    pub(super) fn lent(masks: &[u8]) -> Masks
+        requires { ⌜ length (now masks) ≡ 16 ⌝ }
+        ensures { λ m. ⌜ m .0 ≡ now (masks .entry) ⌝ }
+    {
+        Masks(sixteen(masks, 0))
+    }
+
+    // Mask(l).
+    pub(crate) fn mask(self, l: Label) -> [u8; 16]
+        requires { ⌜ l .0 < 16 ⌝ }
+        ensures { λ r. ⌜ r ≡ mask (self .0) (l .0) ⌝ }
+    {
+        let m = self.0;
+        masks::mask(m, l)
+    }
+
+    pub(crate) fn boxes(self) -> [u8; 4096]
+        ensures { λ r. ⌜ r ≡ maskedBoxes (self .0) ⌝ }
+    {
+        let m = self.0;
+        boxes::made(m)
+    }
+
+    pub(crate) fn compensations(self) -> [u8; 256]
+        ensures { λ r. ⌜ r ≡ allCompensations (self .0) ⌝ }
+    {
+        let m = self.0;
+        masks::compensations(m)
+    }
+}

@@ -1,0 +1,98 @@
+// Masked encryption of many blocks with the published masks, each at its own offset. Masks, boxes and compensations are made
+// once.
+ghost use mathlib.Core.Path.{_≡_};
+ghost use mathlib.Core.List.{[], _∷_};
+ghost use Prim.Native.Nat.{_<_};
+ghost use lib.ListN.{length};
+ghost use Rattle.aes.specs.State.{at};
+ghost use Rattle.aes.specs.Reply.{areOffsets, isForm};
+ghost use Rattle.masked.specs.Calls.{encryptBlocksOf, blocksChecks, refusal};
+use super::lent::Block;
+use super::lent::Masks;
+use crate::boxes;
+use crate::masks;
+use crate::run::unrecorded;
+use aes::reply;
+
+// Writes for each block what encrypt_published would, at the block's own offset.
+pub fn encrypt_blocks(
+    schedule: &[u8],
+    input: &[u8],
+    output: &mut [u8],
+    offsets: &[u8],
+    form: u8,
+) -> u8
+    ensures { λ r. ⌜ (r, now (output .exit)) ≡ encryptBlocksOf (now (schedule .entry)) (now (input .entry)) (now (output .entry)) (now (offsets .entry)) form ⌝ }
+{
+    let refusal = refusal(schedule, input, output, offsets, form);
+    if refusal != reply::DONE {
+        return refusal;
+    }
+    let masks = Masks::published();
+    let boxes = boxes::stored();
+    let compensations = masks::stored_compensations();
+    let mut k = 0;
+    while k < offsets.len() {
+        let a = 16 * k;
+        let e = a + 16;
+        unrecorded(
+            Block::lent(&input[a..e]),
+            schedule,
+            masks,
+            &boxes,
+            &compensations,
+            offset(offsets, k),
+            form,
+            &mut output[a..e],
+        );
+        k += 1;
+    }
+    reply::DONE
+}
+
+// The number of the first check that fails, in their order.
+fn refusal(schedule: &[u8], input: &[u8], output: &[u8], offsets: &[u8], form: u8) -> u8
+    ensures { λ r. ⌜ r ≡ refusal (blocksChecks (now (schedule .entry)) (now (input .entry)) (now (output .entry)) (now (offsets .entry)) form) ⌝ }
+{
+    if schedule.len() != 240 {
+        return reply::SCHEDULE_LENGTH;
+    }
+    if input.len() % 16 != 0 {
+        return reply::INPUT_LENGTH;
+    }
+    if 4096 < input.len() {
+        return reply::INPUT_LENGTH;
+    }
+    if output.len() != input.len() {
+        return reply::OUTPUT_LENGTH;
+    }
+    if offsets.len() != input.len() / 16 {
+        return reply::OFFSETS_LENGTH;
+    }
+    later_refusal(offsets, form)
+}
+
+// The same of the checks that read more than a length.
+fn later_refusal(offsets: &[u8], form: u8) -> u8
+    ensures { λ r. ⌜ r ≡ refusal (areOffsets (now (offsets .entry)) ∷ isForm form ∷ []) ⌝ }
+{
+    let mut k = 0;
+    while k < offsets.len() {
+        if 15 < offsets[k] {
+            return reply::OFFSET_RANGE;
+        }
+        k += 1;
+    }
+    if 1 < form {
+        return reply::FORM_UNKNOWN;
+    }
+    reply::DONE
+}
+
+// The offset of a block.
+fn offset(offsets: &[u8], k: usize) -> u8
+    requires { ⌜ k < length (now offsets) ⌝ }
+    ensures { λ r. ⌜ r ≡ at (now (offsets .entry)) k ⌝ }
+{
+    offsets[k]
+}

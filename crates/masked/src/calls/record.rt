@@ -1,0 +1,41 @@
+// The recorded masked run, with any sixteen masks.
+ghost use mathlib.Core.Path.{_≡_};
+ghost use Rattle.masked.specs.Calls.{recordMaskedOf};
+use super::encrypt::refusal;
+use super::lent::Block;
+use super::lent::Masks;
+use crate::run::recorded;
+use aes::reply;
+
+// Writes the 71 states of a masked run in form 0.
+pub fn record_masked(
+    schedule: &[u8],
+    input: &[u8],
+    masks: &[u8],
+    offset: u8,
+    states: &mut [u8],
+) -> u8
+    ensures { λ r. ⌜ (r, now (states .exit)) ≡ recordMaskedOf (now (schedule .entry)) (now (input .entry)) (now (masks .entry)) offset (now (states .entry)) ⌝ }
+{
+    // No output is lent: the input, of which the same length is asked, stands for it.
+    let refusal = refusal(schedule, input, input, masks, offset, 0);
+    if refusal != reply::DONE {
+        return refusal;
+    }
+    if states.len() != 1136 {
+        return reply::RECORD_LENGTH;
+    }
+    let masks = Masks::lent(masks);
+    let boxes = masks.boxes();
+    let compensations = masks.compensations();
+    recorded(
+        Block::lent(input),
+        schedule,
+        masks,
+        &boxes,
+        &compensations,
+        offset,
+        states,
+    );
+    reply::DONE
+}

@@ -1,0 +1,137 @@
+// The steps of every masked run, one for each kind of recorded point; both keys of the last round are added by one. Each takes a
+// state as it is covered, gives the next and writes it to the part that it was lent. `cover` alone takes the bare block, and
+// `uncover` alone gives no state: the finished block stands in its part.
+ghost use mathlib.Core.Path.{_≡_};
+ghost use Prim.Native.Nat.{_+_, _%_, _<_};
+ghost use lib.Dec.{eqb};
+ghost use lib.ListN.{length};
+ghost use Rattle.aes.specs.State.{shiftRows, mixColumns};
+ghost use Rattle.aes.specs.Key.{roundKey};
+ghost use Rattle.masked.specs.Mask.{_⊞_, mask, maskedBoxes, allCompensations, ending};
+ghost use Rattle.masked.specs.Lent.{boxedBy, sixteen};
+use crate::blocks::keep;
+use crate::blocks::sixteen;
+use crate::calls::lent::Block;
+use crate::calls::lent::Masks;
+use crate::label::Label;
+use crate::label::Round;
+use crate::masks::ending;
+use crate::order::Turn;
+use crate::order::positions;
+use aes::add;
+
+// A state as it is covered, with the label of its masks and its round: how often boxes have answered it. This file alone reads and
+// makes its bytes, advances its label and counts its rounds.
+pub(crate) struct Covered {
+    label: Label,
+    round: Round,
+    bytes: [u8; 16],
+}
+
+impl Covered {
+    // The state, written to the part that is lent for it.
+    fn kept(label: Label, round: Round, bytes: [u8; 16], part: &mut [u8]) -> Covered
+        requires { ⌜ length (now part) ≡ 16 ⌝ }
+        ensures { λ t. ⌜ (t .bytes ≡ bytes) × (t .label .0 ≡ label .0) × (t .round .0 ≡ round .0) × (now (part .exit) ≡ t .bytes) ⌝ }
+    {
+        Covered {
+            label: label,
+            round: round,
+            bytes: keep(bytes, part),
+        }
+    }
+
+    // Whether boxes have answered it in every round.
+    pub(crate) fn finished(self) -> bool
+        ensures { λ r. ⌜ r ≡ eqb (self .round .0) 14 ⌝ }
+    {
+        let r = self.round;
+        r.read() == Round::END.read()
+    }
+}
+
+pub(crate) fn cover(block: Block, masks: Masks, offset: u8, part: &mut [u8]) -> Covered
+    requires { ⌜ length (now part) ≡ 16 ⌝ }
+    ensures { λ t. ⌜ (t .bytes ≡ block .0 ⊞ mask (masks .0) (offset % 16)) × (t .label .0 ≡ offset % 16) × (t .round .0 ≡ 0) × (now (part .exit) ≡ t .bytes) ⌝ }
+{
+    let l = Label::make(offset);
+    Covered::kept(l, Round::FIRST, block.under(masks, l), part)
+}
+
+pub(crate) fn add_key(s: Covered, w: &[u8], part: &mut [u8]) -> Covered
+    requires { ⌜ (s .round .0 < 15) × (length (now w) ≡ 240) × (length (now part) ≡ 16) ⌝ }
+    ensures { λ t. ⌜ (t .bytes ≡ s .bytes ⊞ roundKey (now (w .entry)) (s .round .0)) × (t .label .0 ≡ s .label .0) × (t .round .0 ≡ s .round .0) × (now (part .exit) ≡ t .bytes) ⌝ }
+{
+    let b = s.bytes;
+    let r = s.round;
+    Covered::kept(s.label, r, add(b, sixteen(w, r.read())), part)
+}
+
+// Byte i by the box over it. The boxes are those of the masks, which are named for that alone.
+pub(crate) fn boxes(s: Covered, masks: Masks, boxes: &[u8; 4096], part: &mut [u8]) -> Covered
+    requires { ⌜ (now boxes ≡ maskedBoxes (masks .0)) × (s .label .0 < 16) × (s .round .0 < 14) × (length (now part) ≡ 16) ⌝ }
+    ensures { λ t. ⌜ (t .bytes ≡ boxedBy (now (boxes .entry)) (s .label .0) (s .bytes)) × (t .label .0 ≡ (s .label .0 + 1) % 16) × (t .round .0 ≡ s .round .0 + 1) × (now (part .exit) ≡ t .bytes) ⌝ }
+{
+    let b = s.bytes;
+    let l = s.label;
+    let r = s.round;
+    let m = l.next();
+    let n = r.next();
+    Covered::kept(m, n, answers(b, boxes, l), part)
+}
+
+// What the boxes answer, in the order of the list. It is apart from the step, so that the compiler has the list's entries as
+// constants before it lays out a round.
+fn answers(s: [u8; 16], boxes: &[u8; 4096], l: Label) -> [u8; 16]
+    requires { ⌜ l .0 < 16 ⌝ }
+    ensures { λ t. ⌜ t ≡ boxedBy (now (boxes .entry)) (l .0) s ⌝ }
+{
+    let order = positions();
+    let mut t = [0u8; 16];
+    let mut k = Turn::FIRST;
+    while k.read() < 16 {
+        let next = k.call(&mut t, &order, &s, boxes, l);
+        k = next;
+    }
+    t
+}
+
+pub(crate) fn shift_rows(s: Covered, part: &mut [u8]) -> Covered
+    requires { ⌜ length (now part) ≡ 16 ⌝ }
+    ensures { λ t. ⌜ (t .bytes ≡ shiftRows (s .bytes)) × (t .label .0 ≡ s .label .0) × (t .round .0 ≡ s .round .0) × (now (part .exit) ≡ t .bytes) ⌝ }
+{
+    let b = s.bytes;
+    Covered::kept(s.label, s.round, aes::shift_rows(b), part)
+}
+
+pub(crate) fn mix_columns(s: Covered, part: &mut [u8]) -> Covered
+    requires { ⌜ length (now part) ≡ 16 ⌝ }
+    ensures { λ t. ⌜ (t .bytes ≡ mixColumns (s .bytes)) × (t .label .0 ≡ s .label .0) × (t .round .0 ≡ s .round .0) × (now (part .exit) ≡ t .bytes) ⌝ }
+{
+    let b = s.bytes;
+    Covered::kept(s.label, s.round, aes::mix_columns(b), part)
+}
+
+// The compensations are those of the masks.
+pub(crate) fn compensate(
+    s: Covered,
+    masks: Masks,
+    compensations: &[u8; 256],
+    part: &mut [u8],
+) -> Covered
+    requires { ⌜ (now compensations ≡ allCompensations (masks .0)) × (s .label .0 < 16) × (length (now part) ≡ 16) ⌝ }
+    ensures { λ t. ⌜ (t .bytes ≡ s .bytes ⊞ sixteen (now (compensations .entry)) (s .label .0)) × (t .label .0 ≡ s .label .0) × (t .round .0 ≡ s .round .0) × (now (part .exit) ≡ t .bytes) ⌝ }
+{
+    let b = s.bytes;
+    let l = s.label;
+    Covered::kept(l, s.round, add(b, sixteen(compensations, l.read())), part)
+}
+
+// After the last round alone.
+pub(crate) fn uncover(s: Covered, masks: Masks, form: u8, part: &mut [u8])
+    requires { ⌜ (s .label .0 < 16) × (s .round .0 ≡ 14) × (length (now part) ≡ 16) ⌝ }
+    ensures { λ _. ⌜ now (part .exit) ≡ s .bytes ⊞ ending form (mask (masks .0) (s .label .0)) ⌝ }
+{
+    let b = s.bytes;
+    keep(add(b, ending(form, masks.mask(s.label))), part);
+}
