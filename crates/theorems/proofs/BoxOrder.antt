@@ -6,8 +6,8 @@ use mathlib.Core.List.{List, [], _∷_, _++_, append-assoc}
 use Prim.Native.Nat.{ℕ, zero, suc, _+_, _-_, _*_, _%_, _≤_, _<_}
 use native.Mathlib.Omega.{arith}
 use native.Mathlib.Decide.{ℕ-discrete}
-use lib.ListN.{length, getD, drop, length-append, List·getD-append}
-use lib.Seq.{getD-append-add, getD-take, getD-drop}
+use lib.ListN.{length, getD, length-append, List·getD-append}
+use lib.Seq.{getD-append-add}
 use Rattle.aes.specs.Byte.{_⊕_, table}
 use Rattle.aes.specs.State.{at}
 use Rattle.aes.specs.Record.{Point, block, keyed, boxed, whole, final, wholes, points, cipherAt}
@@ -19,10 +19,10 @@ use Rattle.masked.specs.Run.{maskedRecord}
 use Rattle.masked.specs.Calls.{blockAt, recordMaskedOf}
 use Rattle.masked.proofs.Ordered.{order-below, lucky}
 use Rattle.theorems.specs.MaskTable.{maskAt}
-use Rattle.theorems.specs.Neighbours.{betweenStates, betweenBare, betweenMasks}
+use Rattle.theorems.specs.Neighbours.{betweenStates, betweenRecorded, betweenBare, betweenMasks}
 use Rattle.theorems.proofs.AnyMasks.{maskBy}
 use Rattle.theorems.proofs.Relation.{plain-at, maskAt-is, mask-entry, relation-form-at}
-use Rattle.theorems.proofs.RecordBytes.{add-at, record-state}
+use Rattle.theorems.proofs.RecordStates.{add-at, published-length, masked-states}
 
 -- the points of round r: state 5 r + 1 is that after its key, and the next that after its boxes
 wholes-length : (n : ℕ) → length (wholes n) ≡ 5 * n
@@ -55,10 +55,6 @@ round-within : (nr r : ℕ) → r < nr → 5 * r + 2 < length (points nr)
 unfolding points
 round-within nr r lt = rw (length-append (wholes (nr - 1)) (final (nr - 1)), wholes-length (nr - 1)) (omega arith)
 
--- byte i of state q of a record
-block-at : (xs : List ℕ) (q i : ℕ) → i < 16 → at (blockAt q xs) i ≡ at xs (16 * q + i)
-block-at xs q i h = getD-take 16 (drop (16 * q) xs) i 0 h ∙ getD-drop (16 * q) xs i 0
-
 -- Any order of the boxes, any masks.
 module _ (order : List ℕ) (positions : (k : ℕ) → k < 16 → at order k < 16) where
   between-add : (s m t n : List ℕ) (k : ℕ) → k < 15 → between order (s ⊞ m) (t ⊞ n) k ≡ between order s t k ⊕ between order m n k
@@ -82,32 +78,49 @@ module _ (order : List ℕ) (positions : (k : ℕ) → k < 16 → at order k < 1
 
     -- the same of the states that record_masked writes
     pub between-recorded : length M ≡ 16 → (states : List ℕ) → length w ≡ 240 → length b ≡ 16 → length states ≡ 1136 → o ≤ 15 → r < 14
-        → between order (blockAt (5 * r + 1) (recordMaskedOf w b M o states .1)) (blockAt (5 * r + 2) (recordMaskedOf w b M o states .1)) k
-        ≡ betweenBare order w b r k ⊕ betweenMasks order M o r k
+        → betweenRecorded order (recordMaskedOf w b M o states .1) r k ≡ betweenBare order w b r k ⊕ betweenMasks order M o r k
     between-recorded lm states lw lb ls ho hr =
-        let byte : (q i : ℕ) → q < 71 → i < 16 → at (blockAt q (recordMaskedOf w b M o states .1)) i ≡ at (getD (maskedRecord 14 0 M o w b) q []) i =
-        λ q i hq hi. block-at (recordMaskedOf w b M o states .1) q i hi ∙ record-state M lm w b states lw lb ls q i o hq hi ho in
-        (λ j. byte (5 * r + 2) (at order k) (omega arith) (positions k (omega arith)) j ⊕ byte (5 * r + 1) (at order (k + 1)) (omega arith) (positions (k + 1) (omega arith)) j)
-        ∙ between-states 14 0 hr
+        let written : (q : ℕ) → q < 71 → blockAt q (recordMaskedOf w b M o states .1) ≡ getD (maskedRecord 14 0 M o w b) q [] = masked-states w b states lw lb ls M lm o ho in
+        (λ i. between order (written (5 * r + 1) (omega arith) i) (written (5 * r + 2) (omega arith) i) k) ∙ between-states 14 0 hr
 
 natural-at : (k : ℕ) → k < 16 → at natural k ≡ k
 unfolding table
 natural-at = table-at (λ i. i) 16
 
-module _ (o : ℕ) (w b : List ℕ) (r k : ℕ) (hk : k < 15) (nr form : ℕ) (hr : r < nr) where
-  -- in the order that every masked run reads, with the published masks: that mask is never 00
-  pub even-first : (betweenStates boxOrder (maskedRecord nr form published o w b) r k ≡ betweenBare boxOrder w b r k ⊕ betweenMasks boxOrder published o r k)
-      × (betweenMasks boxOrder published o r k ≡ 0 → ⊥)
-  unfolding maskAt
-  even-first = (between-states boxOrder order-below published o w b r k hk nr form hr, lucky (o + r) k hk)
+natural-below : (k : ℕ) → k < 16 → at natural k < 16
+natural-below k h = rw (natural-at k h) h
 
-  -- in natural order, whatever the masks are: it is always 00
-  pub natural-bare : (M : List ℕ) → (betweenStates natural (maskedRecord nr form M o w b) r k ≡ betweenBare natural w b r k ⊕ betweenMasks natural M o r k)
-      × (betweenMasks natural M o r k ≡ 0)
+module _ (o : ℕ) (w b : List ℕ) (r k : ℕ) (hk : k < 15) where
+  -- in the order that every masked run reads, with the published masks, that mask is never 00
+  never-bare : betweenMasks boxOrder published o r k ≡ 0 → ⊥
   unfolding maskAt
-  natural-bare M =
-      let same : (o + r + 1 + k) % 16 ≡ (o + r + (k + 1)) % 16 = omega arith in (
-        between-states natural (λ i h. rw (natural-at i h) h) M o w b r k hk nr form hr,
-        rw (natural-at k (omega arith), natural-at (k + 1) (omega arith), mask-entry M (o + r + 1) k (omega arith), mask-entry M (o + r) (k + 1) (omega arith), same)
-            (xor-self (maskByte M (o + r) (k + 1))),
-      )
+  never-bare = lucky (o + r) k hk
+
+  pub even-first : (nr form : ℕ) → r < nr
+      → (betweenStates boxOrder (maskedRecord nr form published o w b) r k ≡ betweenBare boxOrder w b r k ⊕ betweenMasks boxOrder published o r k)
+      × (betweenMasks boxOrder published o r k ≡ 0 → ⊥)
+  even-first nr form hr = (between-states boxOrder order-below published o w b r k hk nr form hr, never-bare)
+
+  -- in natural order, whatever the masks are, it is always 00
+  always-bare : (M : List ℕ) → betweenMasks natural M o r k ≡ 0
+  unfolding maskAt
+  always-bare M =
+      let same : (o + r + 1 + k) % 16 ≡ (o + r + (k + 1)) % 16 = omega arith in
+      rw (natural-at k (omega arith), natural-at (k + 1) (omega arith), mask-entry M (o + r + 1) k (omega arith), mask-entry M (o + r) (k + 1) (omega arith), same)
+      (xor-self (maskByte M (o + r) (k + 1)))
+
+  pub natural-bare : (nr form : ℕ) → r < nr → (M : List ℕ)
+      → (betweenStates natural (maskedRecord nr form M o w b) r k ≡ betweenBare natural w b r k ⊕ betweenMasks natural M o r k)
+      × (betweenMasks natural M o r k ≡ 0)
+  natural-bare nr form hr M = (between-states natural natural-below M o w b r k hk nr form hr, always-bare M)
+
+  -- both of what record_masked writes
+  module _ (states : List ℕ) (lw : length w ≡ 240) (lb : length b ≡ 16) (ls : length states ≡ 1136) (ho : o ≤ 15) (hr : r < 14) where
+    pub even-first-recorded : (betweenRecorded boxOrder (recordMaskedOf w b published o states .1) r k ≡ betweenBare boxOrder w b r k ⊕ betweenMasks boxOrder published o r k)
+        × (betweenMasks boxOrder published o r k ≡ 0 → ⊥)
+    even-first-recorded = (between-recorded boxOrder order-below published o w b r k hk published-length states lw lb ls ho hr, never-bare)
+
+    pub natural-bare-recorded : (M : List ℕ) → length M ≡ 16
+        → (betweenRecorded natural (recordMaskedOf w b M o states .1) r k ≡ betweenBare natural w b r k ⊕ betweenMasks natural M o r k)
+        × (betweenMasks natural M o r k ≡ 0)
+    natural-bare-recorded M lm = (between-recorded natural natural-below M o w b r k hk lm states lw lb ls ho hr, always-bare M)

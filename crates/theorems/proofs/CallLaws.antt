@@ -1,19 +1,17 @@
 -- What follows for the calls, through their promises.
 -- Assumes nothing.
-use mathlib.Core.Path.{_≡_, sym, ap}
+use mathlib.Core.Path.{_≡_, ap}
 use mathlib.Core.List.{List}
 use Prim.Native.Nat.{ℕ}
 use lib.ListN.{length}
 use borrow.Author.Tests.{eq-eqb}
 use Rattle.aes.specs.State.{Bytes}
 use Rattle.aes.specs.Cipher.{cipher, invCipher}
-use Rattle.aes.specs.Record.{last, plainRecord}
 use Rattle.aes.specs.Calls.{encryptOf, decryptOf}
 use Rattle.theorems.proofs.RoundTrip.{inv-cipher-cipher, cipher-inv-cipher}
 use Rattle.aes.proofs.Undo.{add-size}
-use Rattle.theorems.proofs.PlainRecord.{record-last}
 
-cipher-size : (nr : ℕ) (w block : List ℕ) → length (cipher nr w block) ≡ 16
+pub cipher-size : (nr : ℕ) (w block : List ℕ) → length (cipher nr w block) ≡ 16
 unfolding cipher
 cipher-size nr w block = add-size _ _
 
@@ -21,8 +19,7 @@ inv-cipher-size : (nr : ℕ) (w block : List ℕ) → length (invCipher nr w blo
 unfolding invCipher
 inv-cipher-size nr w block = add-size _ _
 
--- Under any 240 bytes: decrypting what encrypting wrote gives the block back, the reverse, and the last recorded state is what
--- encrypting writes.
+-- Under any 240 bytes: decrypting what encrypting wrote gives the block back, and the reverse.
 module _ {w block : List ℕ} (hw : Bytes 240 w) (hb : Bytes 16 block) (first second : List ℕ) (lf : length first ≡ 16)
     (ls : length second ≡ 16) where
   pub decrypt-encrypt : decryptOf w (encryptOf w block first .1) second ≡ (0, block)
@@ -46,8 +43,3 @@ module _ {w block : List ℕ} (hw : Bytes 240 w) (hb : Bytes 16 block) (first se
         eq-eqb (length (invCipher 14 w block)) 16 (inv-cipher-size 14 w block),
       )
       (ap (λ (l : List ℕ). (0, l)) (cipher-inv-cipher 240 w hw 14 hb))
-
-  pub record-encrypt : encryptOf w block first ≡ (0, last block (plainRecord 14 w block))
-  record-encrypt =
-      simp (eq-eqb (length w) 240 (hw .size), eq-eqb (length block) 16 (hb .size), eq-eqb (length first) 16 lf)
-      (ap (λ (l : List ℕ). (0, l)) (sym (record-last w block 13)))

@@ -9,7 +9,7 @@ pub mod Result
 pub mod ManyBlocks
 pub mod Balancing
 pub mod Fit
-pub mod RecordBytes
+pub mod RecordStates
 pub mod RecordBalance
 pub mod BoxOrder
 pub mod Sheets

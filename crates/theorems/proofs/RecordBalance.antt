@@ -22,7 +22,7 @@ use Rattle.theorems.proofs.AnyMasks.{maskBy}
 use Rattle.theorems.proofs.Relation.{rotating, mask-entry, maskAt-is}
 use Rattle.theorems.proofs.Balancing.{balanced-same, balanced-xor, balanced-back, balanced-turn}
 use Rattle.theorems.proofs.Fit.{fit-balanced, published-fit}
-use Rattle.theorems.proofs.RecordBytes.{record-byte}
+use Rattle.theorems.proofs.RecordStates.{published-length, record-byte}
 
 -- where one mask covers byte i: how far its label is from the offset
 record Label (p : Point) (i : ℕ) : Type 0 where
@@ -70,7 +70,7 @@ fit-balance M fit w b states lw lb ls q i hq t hi =
     let u : Label (getD (points 14) q block) i = label-of (getD (points 14) q block) i t hi in
     let c : ℕ = at (getD (plainRecord 14 w b) q []) i in
     balanced-same (λ o. at (recordMaskedOf w b M o states .1) (16 * q + i)) (λ o. c ⊕ at M ((o + u .label) % 16))
-    (λ o h. record-byte M (fit-balanced M fit .0) w b states lw lb ls q i o hq hi (omega arith) ∙ ap (λ (x : ℕ). c ⊕ x) (u .same M o))
+    (λ o h. record-byte w b states lw lb ls M (fit-balanced M fit .0) o (omega arith) q i hq hi ∙ ap (λ (x : ℕ). c ⊕ x) (u .same M o))
     (balanced-xor c (λ o. at M ((o + u .label) % 16)) (balanced-turn (at M) (fit-balanced M fit .1) (u .label)))
 
 -- computed: one mask covers each byte at 57 of the 71 points
@@ -91,10 +91,6 @@ point-4 : getD (points 14) 4 block ≡ mixed 0
 unfolding points wholes
 point-4 = refl
 
-published-length : length published ≡ 16
-unfolding published
-published-length = refl
-
 -- the published masks
 module _ (w b states : List ℕ) (lw : length w ≡ 240) (lb : length b ≡ 16) (ls : length states ≡ 1136) where
   pub published-balance : (q i : ℕ) → q < 71 → T (single (getD (points 14) q block)) → i < 16
@@ -103,7 +99,7 @@ module _ (w b states : List ℕ) (lw : length w ≡ 240) (lb : length b ≡ 16) 
 
   mixed-byte : (o : ℕ) → o ≤ 15
       → at (recordMaskedOf w b published o states .1) (16 * 4 + 0) ≡ at (getD (plainRecord 14 w b) 4 []) 0 ⊕ at (maskAt published o (mixed 0)) 0
-  mixed-byte o h = record-byte published published-length w b states lw lb ls 4 0 o (lit< tt) (lit< tt) h ∙ rw point-4
+  mixed-byte o h = record-byte w b states lw lb ls published published-length o h 4 0 (lit< tt) (lit< tt) ∙ rw point-4
 
   -- balance fails at point 4, for every schedule and block
   pub mixture-unbalanced : Balanced (λ o. at (recordMaskedOf w b published o states .1) (16 * 4 + 0)) → ⊥

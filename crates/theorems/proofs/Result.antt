@@ -15,13 +15,14 @@ use Rattle.aes.specs.Record.{Point, block, keyed, boxed, shifted, mixed, compen
 use Rattle.aes.specs.Calls.{encryptOf}
 use Rattle.aes.proofs.Xor.{xor-zero}
 use Rattle.aes.proofs.Listed.{table-at}
-use Rattle.aes.proofs.Undo.{add-size, state-at}
+use Rattle.aes.proofs.Undo.{state-at}
 use Rattle.aes.proofs.Written.{last-append}
 use Rattle.aes.proofs.PlainRun.{plain-sized}
 use Rattle.masked.specs.Mask.{published, _⊞_, mask}
 use Rattle.masked.specs.Run.{maskedRecord, maskedCipher}
 use Rattle.theorems.specs.MaskTable.{bare, maskAt, summed}
 use Rattle.masked.specs.Calls.{encryptMaskedOf, encryptPublishedOf}
+use Rattle.theorems.proofs.CallLaws.{cipher-size}
 use Rattle.theorems.proofs.PlainRecord.{record-last}
 use Rattle.theorems.proofs.Cover.{last-summed}
 use Rattle.theorems.proofs.AnyMasks.{left, maskBy}
@@ -40,13 +41,9 @@ unfolding points run summed last plain plainRecord maskBy
 last-state form K w nr b = last-summed (plain w) (maskBy form K) (wholes (nr - 1) ++ final (nr - 1)) (K 0) b
 
 -- nothing is left by no mask
-add-none : (s : List ℕ) → length s ≡ 16 → s ⊞ bare ≡ s
+pub add-none : (s : List ℕ) → length s ≡ 16 → s ⊞ bare ≡ s
 unfolding addRoundKey
 add-none s l = simp xor-zero (state-at s l)
-
-cipher-size : (nr : ℕ) (w b : List ℕ) → length (cipher nr w b) ≡ 16
-unfolding cipher
-cipher-size nr w b = add-size _ _
 
 module _ (M : List ℕ) (o : ℕ) (w : List ℕ) (n : ℕ) (b : List ℕ) where
   masked-last : (form : ℕ) → maskedCipher (suc n) form M o w b ≡ cipher (suc n) w b ⊞ left form (mask M (o + suc n))
