@@ -17,7 +17,6 @@ test:
 	@tools/sources
 	@tools/cites-test
 	@tools/cites
-	@tools/labels-test
 	@tools/trace-test
 	@tools/trace
 	@tools/header-test
