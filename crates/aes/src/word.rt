@@ -82,7 +82,7 @@ fn rot_word(x: u32) -> u32
     (x >> 8) + (x << 24)
 }
 
-// XTIMES of four bytes: the bits of each move up by one, and 1b is added where its bit 7 was set. No branch hangs on them.
+// XTIMES of four bytes: the bits of each move up by one, and 1b is added where its bit 7 was set. No branch depends on them.
 fn double(x: u32) -> u32
     ensures { λ r. ⌜ wordOf r ≡ doubled (wordOf x) ⌝ }
 {
