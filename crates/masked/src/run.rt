@@ -64,18 +64,15 @@ pub(crate) fn unrecorded(
     ensures { λ _. ⌜ now (output .exit) ≡ maskedCipher 14 form (masks .0) offset (now (w .entry)) (block .0) ⌝ }
 {
     let mut part = [0u8; 16];
-    let mut s = cover(block, masks, offset, &mut part);
-    loop {
-        let t = half(s, w, masks, boxes);
-        if t.finished() {
-            let mut part = [0u8; 16];
-            let u = add_key(t, w, &mut part);
-            uncover(u, masks, form, output);
-            return;
-        }
+    let s = cover(block, masks, offset, &mut part);
+    let mut t = half(s, w, masks, boxes);
+    while !t.finished() {
         let u = rest(t, masks, compensations);
-        s = u;
+        let v = half(u, w, masks, boxes);
+        t = v;
     }
+    let u = add_key(t, w, &mut part);
+    uncover(u, masks, form, output);
 }
 
 // The step at point n after the covered block, five to a round; the last round is closed. The last point uncovers, and is apart.
@@ -105,8 +102,8 @@ fn point(
     }
 }
 
-// What every round begins with, where nothing is recorded: key, boxes and ShiftRows. It has one caller, and is apart from the
-// recorded points, so that the compiler sees that what the steps write here is never read.
+// What every round begins with, where nothing is recorded: key, boxes and ShiftRows. It is apart from the recorded points, so that
+// the compiler sees that what the steps write here is never read.
 fn half(s: Covered, w: &[u8], masks: Masks, lent: &[u8; 4096]) -> Covered
     requires { ⌜ (s .label .0 < 16) × (s .round .0 < 14) × (length (now w) ≡ 240) × (now lent ≡ maskedBoxes (masks .0)) ⌝ }
     ensures { λ t. ⌜ (t .bytes ≡ shiftRows (boxedBy (now (lent .entry)) (s .label .0) (s .bytes ⊞ roundKey (now (w .entry)) (s .round .0)))) × (t .label .0 ≡ (s .label .0 + 1) % 16) × (t .round .0 ≡ s .round .0 + 1) ⌝ }

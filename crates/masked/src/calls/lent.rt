@@ -30,7 +30,8 @@ impl Block {
         ensures { λ r. ⌜ r ≡ self .0 ⊞ mask (masks .0) (l .0) ⌝ }
     {
         let b = self.0;
-        add(b, masks.mask(l))
+        let m = masks.mask(l);
+        add(b, m)
     }
 }
 
