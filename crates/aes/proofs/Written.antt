@@ -8,7 +8,7 @@ use native.Mathlib.Numerals.{add-one}
 use native.Mathlib.Omega.{arith}
 use lib.Dec.{lit≤}
 use lib.ListN.{length, length-append}
-use Rattle.aes.specs.Record.{Point, block, whole, wholes, five, points, run, last, bytes, Recorded}
+use Rattle.aes.specs.Record.{Point, block, wholes, five, points, run, last, bytes, Recorded}
 use Rattle.aes.specs.Held.{Holds}
 use Rattle.aes.proofs.Part.{holds-none, holds-all, lent, back}
 
@@ -88,10 +88,6 @@ written-five {f} h s l xs room p q r u v e1 k1 e2 k2 e3 k3 e4 k4 e5 k5 =
     let h3 = written-step h l h2 r 32 48 refl refl (lit≤ tt) (lit≤ tt) e3 k3 in
     let h4 = written-step h l h3 u 48 64 refl refl (lit≤ tt) (lit≤ tt) e4 k4 in
     written-all h l (written-step h l h4 v 64 80 refl refl (lit≤ tt) (lit≤ tt) e5 k5) refl
-
-pub wholes-more : (n : ℕ) → wholes (n + 1) ≡ wholes n ++ whole n
-unfolding wholes
-wholes-more n = rw add-one
 
 -- the points of n turns, and how many bytes they take with the block where each takes k
 abbrev pub turns : (ℕ → List Point) → ℕ → List Point
