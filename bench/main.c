@@ -1,9 +1,9 @@
 // The benchmark's program. Its words:
 //   check VECTORS            holds everything that is measured to the vectors; fails where anything is wrong
 //   list                     prints who can be measured, a line each: ID and name, or - where this machine cannot run it
-//   time VECTORS [ID..]      checks, and then times every call of those makers, or of all, in rounds that take turns; a line for
-//                            each call and maker: call, name, nanoseconds in the fastest round, and by how many per cent the
-//                            slowest lay above it
+//   time VECTORS [ID..]      checks, and then times every call of those makers, or of all, in short batches that take turns; a line
+//                            for each call and maker: call, name, nanoseconds in the fastest batch, and by how many per cent the
+//                            middle one lay above it
 //   repeat ID TIMES..        makes each call of a maker, in their order, so many times, for whoever counts instructions
 // Fields of a line are separated by tabs.
 #define _POSIX_C_SOURCE 199309L
@@ -15,9 +15,10 @@
 #include "check.h"
 #include "maker.h"
 
-enum { ROUNDS_TIMED = 5 };
+// Batches are shorter than a time slice, so that of many some are not interrupted.
+enum { BATCHES = 40 };
 
-static const double ROUND_NANOSECONDS = 20e6;
+static const double BATCH_NANOSECONDS = 1e6;
 
 static struct vectors vectors;
 
@@ -38,35 +39,19 @@ static double nanoseconds(const struct maker *maker, enum call call, long times)
     return (double)(end.tv_sec - begin.tv_sec) * 1e9 + (double)(end.tv_nsec - begin.tv_nsec);
 }
 
-// How many calls make a round.
-static long calls_in_a_round(const struct maker *maker, enum call call)
+// How many calls make a batch: it takes one to two milliseconds.
+static long calls_in_a_batch(const struct maker *maker, enum call call)
 {
     long times = 1;
-    while (nanoseconds(maker, call, times) < ROUND_NANOSECONDS / 2)
+    while (nanoseconds(maker, call, times) < BATCH_NANOSECONDS)
         times *= 2;
-    return 2 * times;
+    return times;
 }
 
-static void time_call(const struct maker *makers, size_t count, enum call call)
+static int rising(const void *a, const void *b)
 {
-    long times[MOST_MAKERS];
-    double fastest[MOST_MAKERS], slowest[MOST_MAKERS];
-    for (size_t i = 0; i < count; i++)
-        times[i] = has_call(&makers[i], call) ? calls_in_a_round(&makers[i], call) : 0;
-    for (int round = 0; round < ROUNDS_TIMED; round++)
-        for (size_t i = 0; i < count; i++) {
-            if (times[i] == 0)
-                continue;
-            double taken = nanoseconds(&makers[i], call, times[i]) / (double)times[i];
-            if (round == 0 || taken < fastest[i])
-                fastest[i] = taken;
-            if (round == 0 || taken > slowest[i])
-                slowest[i] = taken;
-        }
-    for (size_t i = 0; i < count; i++)
-        if (times[i] > 0)
-            printf("%s\t%s\t%.1f\t%.1f\n", call_names[call], maker_name(&makers[i]), fastest[i],
-                   100 * (slowest[i] - fastest[i]) / fastest[i]);
+    double x = *(const double *)a, y = *(const double *)b;
+    return (x > y) - (x < y);
 }
 
 static int named(const struct maker *maker, char **ids, int count)
@@ -79,6 +64,8 @@ static int named(const struct maker *maker, char **ids, int count)
 
 static int time_all(char **ids, int id_count)
 {
+    static double taken[CALLS][MOST_MAKERS][BATCHES];
+    static long times[CALLS][MOST_MAKERS];
     struct maker all[MOST_MAKERS], makers[MOST_MAKERS];
     size_t count = 0, all_count = list_makers(all);
     for (size_t i = 0; i < all_count; i++)
@@ -86,8 +73,24 @@ static int time_all(char **ids, int id_count)
             makers[count++] = all[i];
             start(&all[i]);
         }
+    for (int batch = -1; batch < BATCHES; batch++)
+        for (int call = 0; call < CALLS; call++)
+            for (size_t i = 0; i < count; i++) {
+                long *calls = &times[call][i];
+                if (batch < 0)
+                    *calls = has_call(&makers[i], (enum call)call) ? calls_in_a_batch(&makers[i], (enum call)call) : 0;
+                else if (*calls > 0)
+                    taken[call][i][batch] = nanoseconds(&makers[i], (enum call)call, *calls) / (double)*calls;
+            }
     for (int call = 0; call < CALLS; call++)
-        time_call(makers, count, (enum call)call);
+        for (size_t i = 0; i < count; i++) {
+            double *sorted = taken[call][i];
+            if (times[call][i] == 0)
+                continue;
+            qsort(sorted, BATCHES, sizeof *sorted, rising);
+            printf("%s\t%s\t%.1f\t%.1f\n", call_names[call], maker_name(&makers[i]), sorted[0],
+                   100 * (sorted[BATCHES / 2] - sorted[0]) / sorted[0]);
+        }
     return 0;
 }
 

@@ -1,5 +1,5 @@
 # Prints the benchmark's table of what was timed and counted: awk -v many=CALL -f table.awk kind=times FILE kind=off FILE
-# kind=counts FILE. Lines of times are call, name, nanoseconds and noise in per cent; `off` are those where AES-NI was hidden,
+# kind=counts FILE. Lines of times are call, name, nanoseconds and spread in per cent; `off` are those where AES-NI was hidden,
 # with the library timed again beside them; counts are call, name and instructions. `many` is the call under whose name one
 # block of many stands.
 function grouped(number,   text) {
@@ -23,7 +23,7 @@ kind == "counts" { count[$1, $2] = $3; if (!(($1, $2) in time)) time[$1, $2] = "
 kind == "times" || kind == "off" {
     if (kind == "off" && $2 == ours) { again[$1] = $3; next }
     time[$1, $2] = $3
-    noise[$1, $2] = $4
+    spread[$1, $2] = $4
     own[$1, $2] = kind == "off" ? again[$1] : time[$1, ours]
 }
 !($1 in seen) { seen[$1] = 1; call[++calls] = $1 }
@@ -33,11 +33,11 @@ END {
     print "Beside the same steps in C"
     print ""
     printf "%-30s %19s %31s\n", "", "nanoseconds", "instructions"
-    printf "%-30s %8s %8s %6s %7s %9s %9s %6s\n", "call", "ours", "C", "ratio", "noise", "ours", "C", "ratio"
+    printf "%-30s %8s %8s %6s %7s %9s %9s %6s\n", "call", "ours", "C", "ratio", "spread", "ours", "C", "ratio"
     for (i = 1; i <= calls; i++) {
         n = call[i]
         printf "%-30s %8s %8s %6s %7s %9s %9s %6s\n", n, nanoseconds(time[n, ours]), nanoseconds(time[n, c]),
-            ratio(time[n, ours], time[n, c]), percent(greater(noise[n, ours], noise[n, c])),
+            ratio(time[n, ours], time[n, c]), percent(greater(spread[n, ours], spread[n, c])),
             grouped(count[n, ours]), grouped(count[n, c]), ratio(count[n, ours], count[n, c])
     }
     print ""
@@ -52,13 +52,13 @@ END {
     print ""
     print "Beside other libraries"
     print ""
-    printf "%-11s %-36s %8s %8s %7s %9s %8s\n", "call", "by", "ns", "ours/it", "noise", "instr.", "ours/it"
+    printf "%-11s %-36s %8s %8s %7s %9s %8s\n", "call", "by", "ns", "ours/it", "spread", "instr.", "ours/it"
     for (i = 1; i <= calls; i++) {
         n = call[i]
         for (k = 1; k <= peers[n]; k++) {
             p = peer[n, k]
             printf "%-11s %-36s %8s %8s %7s %9s %8s\n", n, p, nanoseconds(time[n, p]), ratio(own[n, p], time[n, p]),
-                percent(noise[n, p]), grouped(count[n, p]), ratio(count[n, ours], count[n, p])
+                percent(spread[n, p]), grouped(count[n, p]), ratio(count[n, ours], count[n, p])
         }
         if (peers[n] && peers[call[i + 1]]) print ""
     }
