@@ -1,5 +1,7 @@
 pub mod Row
 pub mod Store
+pub mod Columns
+pub mod Turned
 pub mod Endings
 pub mod Labels
 pub mod LentSteps

@@ -63,10 +63,11 @@ pub compensation-size : (M : List ℕ) (o : ℕ) → length (compensation M o) �
 unfolding compensation
 compensation-size M o = add-size _ _
 
--- the constant at each label
+-- the state at each place of a row of them, and so the constant at each label
+pub row-state : (f : ℕ → List ℕ) → ((j : ℕ) → length (f j) ≡ 16) → (n o : ℕ) → o < n → roundKey (inRow f n) o ≡ f o
+unfolding roundKey table
+row-state f h n o lt = table-same (λ i. at (inRow f n) (16 * o + i)) (at (f o)) 16 (λ i. row-at f 16 h n o i lt) ∙ state-at (f o) (h o)
+
 pub compensation-at : (M : List ℕ) (o : ℕ) → o < 16 → roundKey (allCompensations M) o ≡ compensation M o
-unfolding roundKey allCompensations table
-compensation-at M o ho =
-    table-same (λ i. at (inRow (compensation M) 16) (16 * o + i)) (at (compensation M o)) 16
-    (λ i. row-at (compensation M) 16 (compensation-size M) 16 o i ho)
-    ∙ state-at (compensation M o) (compensation-size M o)
+unfolding allCompensations
+compensation-at M = row-state (compensation M) (compensation-size M) 16

@@ -1,11 +1,12 @@
 // The sixteen masked boxes: stored for the published masks, and worked out as whole tables for any others.
 ghost use mathlib.Core.Path.{_≡_};
-ghost use Prim.Native.Nat.{_+_, _*_, _<_};
+ghost use Prim.Native.Nat.{ℕ, _+_, _*_, _≤_, _<_};
 ghost use lib.ListN.{length};
 ghost use Rattle.aes.specs.Byte.{_⊕_, table};
-ghost use Rattle.aes.specs.Box.{sBox};
 ghost use Rattle.aes.specs.State.{at};
+ghost use Rattle.aes.specs.Held.{Holds};
 ghost use Rattle.masked.specs.Mask.{published, maskedBoxes};
+ghost use Rattle.masked.specs.Lent.{turnedTable, Pairs, Exchanged};
 use crate::label::Label;
 use aes::tables;
 
@@ -274,50 +275,96 @@ pub(crate) fn stored() -> [u8; 4096]
     BOXES
 }
 
-pub(crate) fn made(masks: [u8; 16]) -> [u8; 4096]
-    ensures { λ r. ⌜ r ≡ maskedBoxes masks ⌝ }
+// The box of each label, for any masks.
+pub(crate) fn made(masks: [u8; 16], boxes: &mut [u8])
+    requires { ⌜ length (now boxes) ≡ 4096 ⌝ }
+    ensures { λ _. ⌜ now (boxes .exit) ≡ maskedBoxes masks ⌝ }
 {
-    let sbox = tables::sbox();
-    let mut r = [0u8; 4096];
+    let s = turned(&tables::sbox());
     let mut l = Label::FIRST;
     let mut n = 0;
     while n < 16 {
         let a = 256 * n;
         let e = a + 256;
         let m = l.next();
-        fill(&sbox, masks[l.read()], masks[m.read()], &mut r[a..e]);
+        fill(&s, masks[l.read()], masks[m.read()], &mut boxes[a..e]);
         l = m;
         n += 1;
     }
-    r
 }
 
-// One box, from the mask of what it takes to the mask of what it gives.
-fn fill(sbox: &[u8; 256], from: u8, to: u8, part: &mut [u8])
-    requires { ⌜ (now sbox ≡ table sBox 256) × (length (now part) ≡ 256) ⌝ }
-    ensures { λ _. ⌜ now (part .exit) ≡ table (λ x. sBox (x ⊕ «from») ⊕ to) 256 ⌝ }
+// One box, from the mask of what it takes to the mask of what it gives. Of a mask 16 h + l it is made of table l, whose rows of
+// sixteen are taken in another order: row b is row b xor h.
+fn fill(tables: &[u8; 4096], from: u8, to: u8, part: &mut [u8])
+    requires { ⌜ (length (now tables) ≡ 4096) × (length (now part) ≡ 256) ⌝ }
+    ensures { λ _. ⌜ ((f : ℕ → ℕ) → now (tables .entry) ≡ table (turnedTable f) 4096 → now (part .exit) ≡ table (λ x. f (x ⊕ «from») ⊕ to) 256) ⌝ }
 {
-    let given = under(sbox, to);
     let taken = from as usize;
-    let mut x = 0;
-    while x < 256 {
-        part[x] = given[x ^ taken];
-        x += 1;
+    let mut b = 0;
+    while b < 16 {
+        row(
+            tables,
+            256 * (taken % 16) + 16 * (b ^ taken / 16),
+            to,
+            part,
+            16 * b,
+        );
+        b += 1;
     }
 }
 
-// S under the mask of what a box gives: so sixteen bytes are covered at once.
-fn under(sbox: &[u8; 256], to: u8) -> [u8; 256]
-    requires { ⌜ now sbox ≡ table sBox 256 ⌝ }
-    ensures { λ r. ⌜ r ≡ table (λ x. sBox x ⊕ to) 256 ⌝ }
+// Sixteen bytes under a mask, to their place.
+fn row(tables: &[u8; 4096], from: usize, to: u8, part: &mut [u8], start: usize)
+    requires { ⌜ (length (now tables) ≡ 4096) × (from + 16 ≤ 4096) × (length (now part) ≡ 256) × (start + 16 ≤ 256) ⌝ }
+    ensures { λ _. ⌜ (length (now (part .exit)) ≡ 256) × ((f : ℕ → ℕ) → Holds 256 (table f start) (now (part .entry)) → ((i : ℕ) → i < 16 → at (now (tables .entry)) (from + i) ⊕ to ≡ f (start + i)) → Holds 256 (table f (start + 16)) (now (part .exit))) ⌝ }
 {
-    let mut r = [0u8; 256];
+    let mut i = 0;
+    while i < 16 {
+        part[start + i] = tables[from + i] ^ to;
+        i += 1;
+    }
+}
+
+// Sixteen tables in a row, of which table l has at x what the lent one has at x xor l. They double: the first k tables are
+// written once more, each k bytes exchanged with the next k.
+fn turned(t: &[u8; 256]) -> [u8; 4096]
+    requires { ⌜ length (now t) ≡ 256 ⌝ }
+    ensures { λ r. ⌜ ((f : ℕ → ℕ) → now (t .entry) ≡ table f 256 → r ≡ table (turnedTable f) 4096) × (length r ≡ 4096) ⌝ }
+{
+    let mut r = [0u8; 4096];
     let mut x = 0;
     while x < 256 {
-        r[x] = sbox[x] ^ to;
+        r[x] = t[x];
         x += 1;
     }
+    doubled(&mut r, 1, 256);
+    doubled(&mut r, 2, 512);
+    doubled(&mut r, 4, 1024);
+    doubled(&mut r, 8, 2048);
     r
+}
+
+fn doubled(r: &mut [u8; 4096], k: usize, end: usize)
+    requires { ⌜ (length (now r) ≡ 4096) × (0 < k) × (k < 16) × (end + end ≤ 4096) × Pairs k end ⌝ }
+    ensures { λ _. ⌜ (length (now (r .exit)) ≡ 4096) × ((f : ℕ → ℕ) → Holds 4096 (table f end) (now (r .entry)) → Exchanged k end f → Holds 4096 (table f (end + end)) (now (r .exit))) ⌝ }
+{
+    let mut y = 0;
+    while y < end {
+        moved(r, y + k, end + y, k);
+        moved(r, y, end + y + k, k);
+        y += 2 * k;
+    }
+}
+
+fn moved(r: &mut [u8; 4096], from: usize, to: usize, k: usize)
+    requires { ⌜ (length (now r) ≡ 4096) × (from < to) × (to + k ≤ 4096) ⌝ }
+    ensures { λ _. ⌜ (length (now (r .exit)) ≡ 4096) × ((f : ℕ → ℕ) → Holds 4096 (table f to) (now (r .entry)) → ((i : ℕ) → i < k → f (from + i) ≡ f (to + i)) → Holds 4096 (table f (to + k)) (now (r .exit))) ⌝ }
+{
+    let mut i = 0;
+    while i < k {
+        r[to + i] = r[from + i];
+        i += 1;
+    }
 }
 
 // What the box with a label answers to a covered byte.

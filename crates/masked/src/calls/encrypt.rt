@@ -55,8 +55,10 @@ pub fn encrypt_masked(
         return refusal;
     }
     let masks = Masks::lent(masks);
-    let boxes = masks.boxes();
-    let compensations = masks.compensations();
+    let mut boxes = [0u8; 4096];
+    masks.boxes(&mut boxes);
+    let mut compensations = [0u8; 256];
+    masks.compensations(&mut compensations);
     unrecorded(
         Block::lent(input),
         schedule,

@@ -58,17 +58,19 @@ impl Masks {
         masks::mask(m, l)
     }
 
-    pub(crate) fn boxes(self) -> [u8; 4096]
-        ensures { λ r. ⌜ r ≡ maskedBoxes (self .0) ⌝ }
+    pub(crate) fn boxes(self, r: &mut [u8; 4096])
+        requires { ⌜ length (now r) ≡ 4096 ⌝ }
+        ensures { λ _. ⌜ now (r .exit) ≡ maskedBoxes (self .0) ⌝ }
     {
         let m = self.0;
-        boxes::made(m)
+        boxes::made(m, r);
     }
 
-    pub(crate) fn compensations(self) -> [u8; 256]
-        ensures { λ r. ⌜ r ≡ allCompensations (self .0) ⌝ }
+    pub(crate) fn compensations(self, r: &mut [u8; 256])
+        requires { ⌜ length (now r) ≡ 256 ⌝ }
+        ensures { λ _. ⌜ now (r .exit) ≡ allCompensations (self .0) ⌝ }
     {
         let m = self.0;
-        masks::compensations(m)
+        masks::compensations(m, r);
     }
 }

@@ -26,8 +26,10 @@ pub fn record_masked(
         return reply::RECORD_LENGTH;
     }
     let masks = Masks::lent(masks);
-    let boxes = masks.boxes();
-    let compensations = masks.compensations();
+    let mut boxes = [0u8; 4096];
+    masks.boxes(&mut boxes);
+    let mut compensations = [0u8; 256];
+    masks.compensations(&mut compensations);
     recorded(
         Block::lent(input),
         schedule,

@@ -1,59 +1,68 @@
--- After n turns the constants of n labels stand in the array.
+-- After q turns q quarters stand in the buffer, each the first four turned by a column more.
 -- Assumes nothing.
 use mathlib.Core.List.{List}
-use mathlib.Core.Path.{_≡_, refl, ap, _∙_}
-use Prim.Native.Nat.{ℕ, _+_, _-_, _*_, _%_, _≤_, _<_}
+use mathlib.Core.Path.{_≡_, refl, sym, ap, _∙_}
+use Prim.Native.Nat.{ℕ, _+_, _-_, _*_, _≤_, _<_}
 use native.Mathlib.Omega.{arith}
 use borrow.Author.Needs.{needs}
 use lib.Dec.{lit≤}
+use lib.ListN.{length}
 use Rattle.aes.specs.Held.{Holds}
 use Rattle.aes.proofs.Part.{holds-none, holds-all}
 use Rattle.masked.specs.Mask.{inRow, compensation, allCompensations}
-use Rattle.masked.proofs.Row.{one-more, ended, row-label, row-size, row-lent}
+use Rattle.masked.specs.Lent.{sixteen, turnedBy}
+use Rattle.masked.proofs.Row.{one-more, ended, row-size, row-lent}
 use Rattle.masked.proofs.Store.{compensation-size}
+use Rattle.masked.proofs.Columns.{quarter, quarter-size, compensations-turned}
 use Rattle.masked.proofs.masks.compensations.Statement.{statement}
 use Rattle.masked.proofs.masks.compensations.Tie as tie
 
 abbrev Inv-loop : tie.InvT-loop
-Inv-loop masks r₀ l₀ n₀ r l n = (n ≤ 16) × (l .0 ≡ n % 16) × Holds 256 (inRow (compensation masks) n) r
+Inv-loop r₀ first q₀ r q = (q ≤ 4) × Holds 256 (inRow (quarter first) q) r
 
 abbrev μ-loop : tie.MeasureT-loop
-μ-loop masks r₀ l₀ n₀ r l n = 16 - n
+μ-loop r₀ first q₀ r q = 4 - q
 
 begin : tie.Need-loop-holds Inv-loop μ-loop
 unfolding inRow
-begin c = (lit≤ tt, refl, holds-none 256 _ refl)
+begin c = (lit≤ tt, holds-none 256 _ (c .before .before .pre))
 
-small : (n : ℕ) → n < 16 → n % 16 ≡ n
-small n lt = omega (arith, lt)
+room : (q : ℕ) → q < 4 → 64 * q + 64 ≤ 256
+room q lt = omega (arith, lt)
 
-room : (n : ℕ) → n < 16 → 16 * n + 16 ≤ 256
-room n lt = omega (arith, lt)
+quarter-lent : tie.Need-turned-requires Inv-loop μ-loop
+quarter-lent c κs =
+    let in-loop = c .before .before in
+    let made = in-loop .before .before in
+    let l = in-loop .before .loop in
+    let M : List ℕ = made .before .before .args .masks in
+    let lt : l .q < 4 = in-loop .loop-test .taken in (
+      rw (made .first-compensations .ensures) (row-size (compensation M) 16 (compensation-size M) 4),
+      omega (arith, lt),
+      search needs,
+    )
 
 again : tie.Need-loop-again Inv-loop μ-loop
 again c =
-    let keep = c .before .before in
-    let made = keep .before .before in
-    let in-loop = made .before in
+    let done = c .before .before in
+    let in-loop = done .before .before .before in
+    let first = in-loop .before .before .first-compensations .result in
     let l = in-loop .before .loop in
-    let M : List ℕ = in-loop .before .before .args .masks in
-    let n : ℕ = l .n in
-    let label : l .l .0 ≡ n = l .inv .1 ∙ small n (in-loop .loop-test .taken) in (
-      one-more (in-loop .loop-test .taken),
-      c .next .ensures ∙ row-label (l .l .0) n (l .inv .1),
-      row-lent (compensation M) 16 (compensation-size M) n 256 (l .r) _ (room n (in-loop .loop-test .taken)) (l .inv .2)
-          (keep .keep .ensures .1 ∙ keep .keep .ensures .0 ∙ made .compensation .ensures ∙ ap (compensation M) label),
-    )
+    let lt : l .q < 4 = in-loop .loop-test .taken in
+    (one-more lt, row-lent (quarter first) 64 (quarter-size first) (l .q) 256 (l .r) _ (room (l .q) lt) (l .inv .1) (done .turned .ensures))
 
 returns : tie.Need-returns Inv-loop μ-loop
-unfolding allCompensations
 returns c =
     let l = c .before .loop in
-    let M : List ℕ = c .before .before .args .masks in
-    let e : l .n ≡ 16 = ended (l .inv .0) (c .loop-test .left) in
-    holds-all 256 (inRow (compensation M) 16) (l .r) (rw e at (l .inv .2)) (row-size (compensation M) 16 (compensation-size M) 16)
+    let made = c .before .before in
+    let M : List ℕ = made .before .before .args .masks in
+    let first = made .first-compensations .result in
+    let e : l .q ≡ 4 = ended (l .inv .0) (c .loop-test .left) in
+    holds-all 256 (inRow (quarter first) 4) (l .r) (rw e at (l .inv .1)) (row-size (quarter first) 64 (quarter-size first) 4)
+    ∙ ap (λ (f : List ℕ). inRow (quarter f) 4) (made .first-compensations .ensures)
+    ∙ sym (compensations-turned M)
 
 pub compensations-spec : {M : Type 1} → statement M
 compensations-spec =
     tie.close
-    (tie.spec Inv-loop μ-loop begin (λ c. search needs) (λ c. search needs) (λ c κs. search needs) (λ c. search needs) (λ c. search needs) (λ c. search needs) (λ c κs. search needs) (λ c κs. search needs) (λ c. search needs) (λ c. search needs) again returns)
+    (tie.spec Inv-loop μ-loop (λ c κs. search needs) begin (λ c. search needs) (λ c. search needs) (λ c. search needs) (λ c. search needs) (λ c. search needs) (λ c. search needs) quarter-lent (λ c. search needs) (λ c. search needs) again (λ c. search needs) returns)

@@ -25,25 +25,25 @@ masks-lent c κs =
 
 block-lent : tie.Need-lent-requires-2
 block-lent c κs =
-    let passed-on = c .before .before .before in
+    let passed-on = c .before .before .before .before .before in
     let a = passed-on .before .before .before .before .before .before .before .args in
     sizes (a .schedule .now) (a .input .now) (a .output .now) (a .masks .now) (a .offset) (a .form) (passed-on .before .refusal .ensures) (passed-on .if1 .left) .input
 
 lent : tie.Need-unrecorded-requires
 lent c κs =
     let constants = c .before .before .before .before in
-    let boxes = constants .before in
-    let passed-on = boxes .before .before in
+    let boxes = constants .before .before in
+    let passed-on = boxes .before .before .before in
     let a = passed-on .before .before .before .before .before .before .before .args in
     let s = sizes (a .schedule .now) (a .input .now) (a .output .now) (a .masks .now) (a .offset) (a .form) (passed-on .before .refusal .ensures) (passed-on .if1 .left) in
-    (s .schedule, boxes .boxes .ensures, constants .compensations .ensures, s .output)
+    (s .schedule, boxes .boxes2 .ensures, constants .compensations2 .ensures, s .output)
 
 returns-2 : tie.Need-returns-2
 unfolding telling
 returns-2 c =
     let run = c .before .before in
     let block = run .before .before .before .before in
-    let table = block .before .before .before in
+    let table = block .before .before .before .before .before in
     let passed-on = table .before in
     let told = passed-on .before in
     let a = told .before .before .before .before .before .before .args in

@@ -45,24 +45,24 @@ masks-lent c κs =
 
 block-lent : tie.Need-lent-requires-2
 block-lent c κs =
-    let passed-on = c .before .before .before .before in
+    let passed-on = c .before .before .before .before .before .before in
     let a = passed-on .before .before .before .before .before .before .args in
     sizes (a .schedule .now) (a .input .now) (a .input .now) (a .masks .now) (a .offset) 0 (passed-on .before .refusal .ensures) (passed-on .if1 .left) .input
 
 lent : tie.Need-recorded-requires
 lent c κs =
     let constants = c .before .before .before .before in
-    let roomy = constants .before .before .before in
+    let roomy = constants .before .before .before .before .before in
     let told = roomy .before .before in
     let a = told .before .before .before .before .before .args in
-    (sizes (a .schedule .now) (a .input .now) (a .input .now) (a .masks .now) (a .offset) 0 (told .refusal .ensures) (roomy .before .if1 .left) .schedule, constants .before .boxes .ensures, constants .compensations .ensures, roomy .if2 .left)
+    (sizes (a .schedule .now) (a .input .now) (a .input .now) (a .masks .now) (a .offset) 0 (told .refusal .ensures) (roomy .before .if1 .left) .schedule, constants .before .before .boxes2 .ensures, constants .compensations2 .ensures, roomy .if2 .left)
 
 returns-3 : tie.Need-returns-3
 unfolding telling
 returns-3 c =
     let run = c .before .before in
     let block = run .before .before .before .before in
-    let table = block .before .before .before in
+    let table = block .before .before .before .before .before in
     let roomy = table .before in
     let told = roomy .before .before in
     let a = told .before .before .before .before .before .args in
