@@ -13,10 +13,10 @@ use Rattle.aes.specs.Record.{final, block, wholes, points, run, last}
 use Rattle.aes.proofs.Below.{under}
 use Rattle.aes.proofs.Replies.{AllHold, telling, holds-done}
 use Rattle.aes.proofs.Written.{run-append, last-append}
-use Rattle.masked.specs.Mask.{published, inRow}
+use Rattle.masks.specs.Mask.{published, inRow}
 use Rattle.masked.specs.Run.{covered, maskedRecord, maskedCipher}
 use Rattle.masked.specs.Calls.{refusal, publishedChecks, blockAt, blocksChecks, encryptPublishedOf}
-use Rattle.masked.proofs.Row.{row-same}
+use Rattle.masks.proofs.Row.{row-same}
 use Rattle.masked.proofs.Checked.{all-hold}
 
 -- a run ends in sixteen bytes

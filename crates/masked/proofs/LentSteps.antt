@@ -18,10 +18,10 @@ use Rattle.aes.proofs.Boxes.{sBox-byte}
 use Rattle.aes.proofs.Undo.{state-bytes, add-bytes, key-bytes, shift-bytes, mix-bytes}
 use Rattle.aes.proofs.Part.{back}
 use Rattle.aes.proofs.Written.{Sized, Written, turns, recorded-one, written-block, written-turn, run-append, last-append}
-use Rattle.masked.specs.Mask.{_⊞_, maskByte, mask, maskedBox, maskedBoxes, compensation, allCompensations, ending}
+use Rattle.masks.specs.Mask.{_⊞_, maskByte, mask, maskedBox, maskedBoxes, compensation, allCompensations, ending}
 use Rattle.masked.specs.Run.{covered, maskedRecord}
 use Rattle.masked.specs.Lent.{boxedBy, steps, pointAfter}
-use Rattle.masked.proofs.Store.{box-at, compensation-at}
+use Rattle.masks.proofs.Stored.{box-at, compensation-at}
 
 pub steps-sized : (w b c : List ℕ) (o : ℕ) (end : List ℕ) → Sized (steps w b c o end)
 unfolding steps addRoundKey boxedBy shiftRows mixColumns

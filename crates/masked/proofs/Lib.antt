@@ -1,8 +1,3 @@
-pub mod Row
-pub mod Store
-pub mod Columns
-pub mod Turned
-pub mod Endings
 pub mod Labels
 pub mod LentSteps
 pub mod Ordered

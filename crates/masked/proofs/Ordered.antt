@@ -16,7 +16,7 @@ use Rattle.aes.specs.State.{at, state}
 use Rattle.aes.proofs.Listed.{Inverted, place-below, place-right, place-only}
 use Rattle.aes.proofs.Fill.{filled-all}
 use Rattle.aes.proofs.Below.{under}
-use Rattle.masked.specs.Mask.{published, mask}
+use Rattle.masks.specs.Mask.{published, mask}
 use Rattle.masked.specs.Order.{boxOrder, between}
 use Rattle.masked.proofs.LentSteps.{mask-turn}
 

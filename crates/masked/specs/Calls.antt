@@ -7,7 +7,7 @@ use lib.ListN.{length, take, drop}
 use Rattle.aes.specs.State.{at}
 use Rattle.aes.specs.Record.{bytes}
 use Rattle.aes.specs.Reply.{Check, _else_, answer, isSchedule, isInput, isOutput, isMaskTable, isOffset, isForm, isRecord, areBlocks, isAsLong, hasOffsets, areOffsets}
-use Rattle.masked.specs.Mask.{published, inRow}
+use Rattle.masks.specs.Mask.{published, inRow}
 use Rattle.masked.specs.Run.{maskedRecord, maskedCipher}
 
 -- the reply of checks alone

@@ -1,14 +1,12 @@
 -- The steps of a masked run over what is lent to them: stored boxes and constants. What inner contracts cite.
 -- Assumes nothing.
 use mathlib.Core.List.{List}
-use mathlib.Core.Path.{_≡_}
-use Prim.Native.Nat.{ℕ, suc, _+_, _*_, _/_, _%_, _≤_, _<_}
+use Prim.Native.Nat.{ℕ, suc, _+_, _*_, _/_, _%_}
 use lib.ListN.{getD}
-use Rattle.aes.specs.Byte.{_⊕_}
 use Rattle.aes.specs.State.{at, state, shiftRows, mixColumns}
 use Rattle.aes.specs.Key.{roundKey}
 use Rattle.aes.specs.Record.{Point, block, keyed, boxed, shifted, mixed, compensated, closed, uncovered, five}
-use Rattle.masked.specs.Mask.{_⊞_}
+use Rattle.masks.specs.Mask.{_⊞_}
 
 -- byte i of s by box j + i of the boxes b
 unfoldable pub boxedBy : List ℕ → ℕ → List ℕ → List ℕ
@@ -17,21 +15,6 @@ boxedBy b j s = state (λ i. at b (256 * ((j + i) % 16) + at s i))
 -- the sixteen bytes of number n in a row of them
 abbrev pub sixteen : List ℕ → ℕ → List ℕ
 sixteen = roundKey
-
--- a state turned by k bytes
-unfoldable pub turnedBy : ℕ → List ℕ → List ℕ
-turnedBy k s = state (λ i. at s ((i + k) % 16))
-
--- Sixteen tables in a row: table l has at x what f gives for x xor l.
-unfoldable pub turnedTable : (ℕ → ℕ) → ℕ → ℕ
-turnedTable f q = f ((q % 256) ⊕ (q / 256))
-
--- Pairs of k bytes fill what is below `end`, and from there on f has them once more, the two of each pair exchanged.
-abbrev pub Pairs : ℕ → ℕ → Type 0
-Pairs k end = (y : ℕ) → y < end → y % (2 * k) ≡ 0 → (y + 2 * k ≤ end) × ((y + 2 * k) % (2 * k) ≡ 0)
-
-abbrev pub Exchanged : ℕ → ℕ → (ℕ → ℕ) → Type 0
-Exchanged k end f = (y i : ℕ) → y < end → y % (2 * k) ≡ 0 → i < k → (f (y + k + i) ≡ f (end + y + i)) × (f (y + i) ≡ f (end + y + k + i))
 
 -- the steps at offset o over a schedule w, boxes b and compensations c, with the last constant; the block has been covered
 unfoldable pub steps : List ℕ → List ℕ → List ℕ → ℕ → List ℕ → Point → List ℕ → List ℕ

@@ -5,7 +5,7 @@ use Prim.Native.Nat.{ℕ, suc, _+_}
 use Rattle.aes.specs.State.{at, state, shiftRows, mixColumns}
 use Rattle.aes.specs.Key.{roundKey}
 use Rattle.aes.specs.Record.{Point, block, keyed, boxed, shifted, mixed, compensated, closed, uncovered, points, run, last}
-use Rattle.masked.specs.Mask.{_⊞_, mask, maskedBox, compensation, ending}
+use Rattle.masks.specs.Mask.{_⊞_, mask, maskedBox, compensation, ending}
 
 -- at offset o over the masks M and the schedule w, ending in a form
 unfoldable pub covered : ℕ → List ℕ → ℕ → List ℕ → Point → List ℕ → List ℕ

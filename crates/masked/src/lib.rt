@@ -1,10 +1,8 @@
-// The upper crate: masks, masked runs and the mask sheet. The module's engine.
+// The upper crate: masked runs and the mask sheet. The module's engine.
 mod blocks;
-mod boxes;
 mod calls;
-mod label;
-mod masks;
 mod order;
+mod round;
 mod run;
 mod sheet;
 

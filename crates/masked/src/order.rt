@@ -1,13 +1,12 @@
 // The order in which the boxes of a round are called, document 002's: even positions first. So, with the published masks, what a box
 // gives and what the next one takes never lie under one mask.
 ghost use mathlib.Core.Path.{_≡_};
-ghost use Prim.Native.Nat.{_+_, _<_};
+ghost use Prim.Native.Nat.{_+_, _*_, _<_};
 ghost use Rattle.aes.specs.State.{at};
 ghost use Rattle.masked.specs.Order.{boxOrder, called};
 ghost use Rattle.masked.specs.Lent.{boxedBy};
-use crate::boxes::entry;
-use crate::label::Label;
-use crate::label::Position;
+use masks::label::Label;
+use masks::label::Position;
 
 const ORDER: [u8; 16] = *b"\
 \x00\x02\x04\x06\x08\x0a\x0c\x0e\x01\x03\x05\x07\x09\x0b\x0d\x0f";
@@ -56,4 +55,12 @@ impl Turn {
         let k = self.0;
         Position::listed(order[k])
     }
+}
+
+// What the box with a label answers to a covered byte.
+fn entry(boxes: &[u8; 4096], l: Label, x: u8) -> u8
+    requires { ⌜ l .0 < 16 ⌝ }
+    ensures { λ r. ⌜ r ≡ at (now (boxes .entry)) (256 * l .0 + x) ⌝ }
+{
+    boxes[256 * l.read() + x as usize]
 }

@@ -7,7 +7,7 @@ ghost use lib.ListN.{length};
 ghost use Rattle.aes.specs.State.{shiftRows, mixColumns};
 ghost use Rattle.aes.specs.Key.{roundKey};
 ghost use Rattle.aes.specs.Record.{bytes};
-ghost use Rattle.masked.specs.Mask.{_⊞_, maskedBoxes, allCompensations};
+ghost use Rattle.masks.specs.Mask.{_⊞_, maskedBoxes, allCompensations};
 ghost use Rattle.masked.specs.Run.{maskedRecord, maskedCipher};
 ghost use Rattle.masked.specs.Lent.{boxedBy, steps, pointAfter};
 

@@ -9,7 +9,7 @@ use Rattle.aes.specs.Record.{Point, block, keyed, boxed, shifted, mixed, compen
 use Rattle.aes.proofs.Xor.{sums}
 use Rattle.aes.proofs.Undo.{mix-add, shift-add}
 use Rattle.aes.proofs.Written.{last-append}
-use Rattle.masked.specs.Mask.{_⊞_, ending}
+use Rattle.masks.specs.Mask.{_⊞_, ending}
 use Rattle.theorems.specs.MaskTable.{bare, summed}
 use Rattle.theorems.proofs.Cover.{Linked, linked-append, cover}
 

@@ -13,7 +13,7 @@ use Rattle.aes.specs.State.{at}
 use Rattle.aes.specs.Record.{Point, block, keyed, boxed, whole, final, wholes, points, cipherAt}
 use Rattle.aes.proofs.Xor.{sums, xor-self}
 use Rattle.aes.proofs.Listed.{table-at}
-use Rattle.masked.specs.Mask.{_⊞_, published, maskByte}
+use Rattle.masks.specs.Mask.{_⊞_, published, maskByte}
 use Rattle.masked.specs.Order.{boxOrder, natural, between}
 use Rattle.masked.specs.Run.{maskedRecord}
 use Rattle.masked.specs.Calls.{blockAt, recordMaskedOf}

@@ -7,7 +7,7 @@ use Prim.Native.Nat.{ℕ, zero, suc, _<_}
 use native.Mathlib.Omega.{arith}
 use lib.ListN.{length, getD}
 use Rattle.aes.specs.Record.{run, last}
-use Rattle.masked.specs.Mask.{_⊞_}
+use Rattle.masks.specs.Mask.{_⊞_}
 use Rattle.theorems.specs.MaskTable.{summed}
 
 -- the mask before each point is the mask at the point before it; m is the mask before all of them

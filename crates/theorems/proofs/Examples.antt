@@ -8,7 +8,7 @@ use Rattle.aes.specs.Byte.{fromBits}
 use Rattle.aes.specs.Field.{_•_, times, xTimes, raise, inverse}
 use Rattle.aes.specs.Box.{affine, sBox}
 use Rattle.aes.specs.State.{at, state, shiftRows, mixColumns, addRoundKey, dot}
-use Rattle.masked.specs.Mask.{published, mask, maskedBox, compensation, ending}
+use Rattle.masks.specs.Mask.{published, mask, maskedBox, compensation, ending}
 use Rattle.beside.specs.Inversion.{maskedInverse}
 
 -- a byte and its value, or a state and the bytes that it begins with

@@ -12,7 +12,7 @@ use Rattle.aes.specs.Byte.{_⊕_, table, below}
 use Rattle.aes.specs.State.{at, state}
 use Rattle.aes.specs.Reply.{_else_, answer}
 use Rattle.aes.proofs.Listed.{table-at}
-use Rattle.masked.specs.Mask.{published, maskByte, mask}
+use Rattle.masks.specs.Mask.{published, maskByte, mask}
 use Rattle.beside.specs.Fitness.{pattern, count, even, balanced, fit, fitnessOf}
 use Rattle.beside.proofs.Even.{not-so}
 use Rattle.theorems.specs.Balance.{Balanced}

@@ -11,9 +11,9 @@ use Rattle.aes.specs.Reply.{Check, _else_, answer}
 use Rattle.aes.specs.Calls.{encryptOf}
 use Rattle.aes.proofs.Below.{under}
 use Rattle.aes.proofs.Replies.{AllHold}
-use Rattle.masked.specs.Mask.{inRow}
+use Rattle.masks.specs.Mask.{inRow}
 use Rattle.masked.specs.Calls.{blockAt, blocksChecks, encryptBlocksOf}
-use Rattle.masked.proofs.Row.{row-same}
+use Rattle.masks.proofs.Row.{row-same}
 use Rattle.theorems.proofs.Result.{encrypt-published-is}
 
 -- what is done matters only where every check holds

@@ -13,7 +13,7 @@ use Rattle.aes.specs.Field.{xTimes, times as product, _•_}
 use Rattle.aes.specs.State.{at, cell, ahead, dot, shiftRows, mixColumns}
 use Rattle.aes.specs.Record.{Point, block, keyed, boxed, shifted, mixed, compensated, closed, uncovered, wholes, points, plainRecord}
 use Rattle.aes.proofs.Listed.{table-at}
-use Rattle.masked.specs.Mask.{published, mask}
+use Rattle.masks.specs.Mask.{published, mask}
 use Rattle.theorems.specs.MaskTable.{maskAt}
 use Rattle.theorems.specs.Balance.{times, different, Balanced, single}
 use Rattle.masked.specs.Calls.{recordMaskedOf}

@@ -17,7 +17,7 @@ use Rattle.aes.specs.Calls.{encryptOf, recordPlainOf}
 use Rattle.aes.proofs.Listed.{table-at}
 use Rattle.aes.proofs.Written.{Sized}
 use Rattle.aes.proofs.PlainRun.{plain-sized}
-use Rattle.masked.specs.Mask.{_⊞_, published}
+use Rattle.masks.specs.Mask.{_⊞_, published}
 use Rattle.masked.specs.Run.{covered, maskedRecord}
 use Rattle.masked.specs.Calls.{blockAt, recordMaskedOf}
 use Rattle.theorems.specs.MaskTable.{bare, maskAt}

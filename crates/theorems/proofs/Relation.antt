@@ -12,7 +12,7 @@ use Rattle.aes.specs.State.{at, state, subBytes, addRoundKey}
 use Rattle.aes.specs.Record.{Point, block, keyed, boxed, shifted, mixed, compensated, closed, uncovered, points, run, plain, plainRecord, cipherAt}
 use Rattle.aes.proofs.Listed.{table-at, table-same}
 use Rattle.theorems.proofs.PlainRecord.{record-is}
-use Rattle.masked.specs.Mask.{_⊞_, maskByte, mask, maskedBox, compensation}
+use Rattle.masks.specs.Mask.{_⊞_, maskByte, mask, maskedBox, compensation}
 use Rattle.masked.specs.Run.{covered, maskedRecord}
 use Rattle.theorems.specs.MaskTable.{maskAt, summed}
 use Rattle.theorems.proofs.Cover.{at-summed, map-at}

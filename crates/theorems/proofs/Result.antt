@@ -18,7 +18,7 @@ use Rattle.aes.proofs.Listed.{table-at}
 use Rattle.aes.proofs.Undo.{state-at}
 use Rattle.aes.proofs.Written.{last-append}
 use Rattle.aes.proofs.PlainRun.{plain-sized}
-use Rattle.masked.specs.Mask.{published, _⊞_, mask}
+use Rattle.masks.specs.Mask.{published, _⊞_, mask}
 use Rattle.masked.specs.Run.{maskedRecord, maskedCipher}
 use Rattle.theorems.specs.MaskTable.{bare, maskAt, summed}
 use Rattle.masked.specs.Calls.{encryptMaskedOf, encryptPublishedOf}

@@ -4,7 +4,7 @@ use mathlib.Core.List.{List, [], _∷_}
 use Prim.Native.Nat.{ℕ, _+_}
 use Rattle.aes.specs.State.{state, shiftRows, mixColumns}
 use Rattle.aes.specs.Record.{Point, block, keyed, boxed, shifted, mixed, compensated, closed, uncovered}
-use Rattle.masked.specs.Mask.{_⊞_, mask}
+use Rattle.masks.specs.Mask.{_⊞_, mask}
 
 -- no mask at all
 abbrev pub bare : List ℕ

@@ -3,10 +3,10 @@ ghost use mathlib.Core.Path.{_≡_};
 ghost use Rattle.masked.specs.Calls.{encryptPublishedOf, encryptMaskedOf, checks, refusal};
 use super::lent::Block;
 use super::lent::Masks;
-use crate::boxes;
-use crate::masks;
 use crate::run::unrecorded;
 use aes::reply;
+use masks::constants;
+use masks::store;
 
 // Writes the block that the masked run ends with, over the published masks.
 pub fn encrypt_published(
@@ -24,8 +24,8 @@ pub fn encrypt_published(
         return refusal;
     }
     let masks = Masks::published();
-    let boxes = boxes::stored();
-    let compensations = masks::stored_compensations();
+    let boxes = store::boxes();
+    let compensations = constants::stored_compensations();
     unrecorded(
         Block::lent(input),
         schedule,

@@ -1,14 +1,13 @@
 // What a masked call is lent, each a type that the calls alone make: the block, and the masks. A run has none but those that it is
 // given, and is told nothing of them but what is made here.
 ghost use mathlib.Core.Path.{_≡_};
-ghost use Prim.Native.Nat.{_<_};
 ghost use lib.ListN.{length};
-ghost use Rattle.masked.specs.Mask.{published, _⊞_, mask, maskedBoxes, allCompensations};
+ghost use Rattle.masks.specs.Mask.{published, _⊞_, mask, maskedBoxes, allCompensations};
 use crate::blocks::sixteen;
-use crate::boxes;
-use crate::label::Label;
-use crate::masks;
 use aes::add;
+use masks::boxes;
+use masks::constants;
+use masks::label::Label;
 
 // A block, bare.
 pub(crate) struct Block([u8; 16]);
@@ -26,7 +25,6 @@ impl Block {
 
     // Under Mask(l).
     pub(crate) fn under(self, masks: Masks, l: Label) -> [u8; 16]
-        requires { ⌜ l .0 < 16 ⌝ }
         ensures { λ r. ⌜ r ≡ self .0 ⊞ mask (masks .0) (l .0) ⌝ }
     {
         let b = self.0;
@@ -39,7 +37,7 @@ impl Masks {
     pub(super) fn published() -> Masks
         ensures { λ m. ⌜ m .0 ≡ published ⌝ }
     {
-        Masks(masks::published())
+        Masks(constants::published())
     }
 
     pub(super) fn lent(masks: &[u8]) -> Masks
@@ -51,15 +49,13 @@ impl Masks {
 
     // Mask(l).
     pub(crate) fn mask(self, l: Label) -> [u8; 16]
-        requires { ⌜ l .0 < 16 ⌝ }
         ensures { λ r. ⌜ r ≡ mask (self .0) (l .0) ⌝ }
     {
         let m = self.0;
-        masks::mask(m, l)
+        constants::mask(m, l)
     }
 
     pub(crate) fn boxes(self, r: &mut [u8; 4096])
-        requires { ⌜ length (now r) ≡ 4096 ⌝ }
         ensures { λ _. ⌜ now (r .exit) ≡ maskedBoxes (self .0) ⌝ }
     {
         let m = self.0;
@@ -67,10 +63,9 @@ impl Masks {
     }
 
     pub(crate) fn compensations(self, r: &mut [u8; 256])
-        requires { ⌜ length (now r) ≡ 256 ⌝ }
         ensures { λ _. ⌜ now (r .exit) ≡ allCompensations (self .0) ⌝ }
     {
         let m = self.0;
-        masks::compensations(m, r);
+        constants::compensations(m, r);
     }
 }

@@ -9,10 +9,10 @@ ghost use Rattle.aes.specs.Reply.{areOffsets, isForm};
 ghost use Rattle.masked.specs.Calls.{encryptBlocksOf, blocksChecks, refusal};
 use super::lent::Block;
 use super::lent::Masks;
-use crate::boxes;
-use crate::masks;
 use crate::run::unrecorded;
 use aes::reply;
+use masks::constants;
+use masks::store;
 
 // Writes for each block what encrypt_published would, at the block's own offset.
 pub fn encrypt_blocks(
@@ -29,8 +29,8 @@ pub fn encrypt_blocks(
         return refusal;
     }
     let masks = Masks::published();
-    let boxes = boxes::stored();
-    let compensations = masks::stored_compensations();
+    let boxes = store::boxes();
+    let compensations = constants::stored_compensations();
     let mut k = 0;
     while k < offsets.len() {
         let a = 16 * k;

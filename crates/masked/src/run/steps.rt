@@ -7,18 +7,18 @@ ghost use lib.Dec.{eqb};
 ghost use lib.ListN.{length};
 ghost use Rattle.aes.specs.State.{shiftRows, mixColumns};
 ghost use Rattle.aes.specs.Key.{roundKey};
-ghost use Rattle.masked.specs.Mask.{_⊞_, mask, maskedBoxes, allCompensations, ending};
+ghost use Rattle.masks.specs.Mask.{_⊞_, mask, maskedBoxes, allCompensations, ending};
 ghost use Rattle.masked.specs.Lent.{boxedBy, sixteen};
 use crate::blocks::keep;
 use crate::blocks::sixteen;
 use crate::calls::lent::Block;
 use crate::calls::lent::Masks;
-use crate::label::Label;
-use crate::label::Round;
-use crate::masks::ending;
 use crate::order::Turn;
 use crate::order::positions;
+use crate::round::Round;
 use aes::add;
+use masks::constants::ending;
+use masks::label::Label;
 
 // A state as it is covered, with the label of its masks and its round: how often boxes have answered it. This file alone reads and
 // makes its bytes, advances its label and counts its rounds.

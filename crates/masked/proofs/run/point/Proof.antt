@@ -6,7 +6,7 @@ use native.Mathlib.Omega.{arith}
 use borrow.Author.Needs.{needs}
 use Rattle.aes.specs.Key.{roundKey}
 use Rattle.aes.specs.Record.{closed, mixed, uncovered, compensated}
-use Rattle.masked.specs.Mask.{_⊞_}
+use Rattle.masks.specs.Mask.{_⊞_}
 use Rattle.masked.specs.Lent.{boxedBy, steps, pointAfter}
 use Rattle.masked.proofs.Labels.{same-label, advanced}
 use Rattle.masked.proofs.LentSteps.{after-at, not-last}

@@ -12,9 +12,9 @@ use Rattle.aes.specs.Record.{block, bytes}
 use Rattle.aes.proofs.Steps.{byte}
 use Rattle.aes.proofs.Undo.{add-size}
 use Rattle.aes.proofs.Written.{Written, turns, written-whole}
-use Rattle.masked.specs.Mask.{_⊞_, mask, ending}
+use Rattle.masks.specs.Mask.{_⊞_, mask, ending}
 use Rattle.masked.specs.Lent.{steps, pointAfter}
-use Rattle.masked.proofs.Row.{one-more, ended}
+use Rattle.masks.proofs.Row.{one-more, ended}
 use Rattle.masked.proofs.Labels.{first-label, label-below}
 use Rattle.masked.proofs.LentSteps.{steps-sized, after, after-all, after-written, recorded-block, recorded-so-far, lent-record}
 use Rattle.masked.proofs.Owned.{field-bytes}

@@ -3,7 +3,7 @@
 use mathlib.Core.Path.{_∙_}
 use borrow.Author.Needs.{needs}
 use Rattle.aes.specs.Key.{roundKey}
-use Rattle.masked.specs.Mask.{_⊞_}
+use Rattle.masks.specs.Mask.{_⊞_}
 use Rattle.masked.proofs.run.rest.Statement.{statement}
 use Rattle.masked.proofs.run.rest.Tie as tie
 

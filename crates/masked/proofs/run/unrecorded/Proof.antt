@@ -13,7 +13,7 @@ use Rattle.aes.specs.Key.{roundKey}
 use Rattle.aes.specs.Record.{Point, block, keyed, boxed, shifted, mixed, compensated, closed, uncovered, whole, final, wholes, points, run, last}
 use Rattle.aes.proofs.Steps.{byte}
 use Rattle.aes.proofs.Undo.{add-size}
-use Rattle.masked.specs.Mask.{_⊞_, mask, ending}
+use Rattle.masks.specs.Mask.{_⊞_, mask, ending}
 use Rattle.masked.specs.Run.{maskedCipher}
 use Rattle.masked.specs.Lent.{boxedBy, steps}
 use Rattle.masked.proofs.Labels.{first-label, same-label, advanced, label-below}

@@ -6,7 +6,7 @@ use Prim.Native.Nat.{ℕ}
 use borrow.Author.Needs.{needs}
 use Rattle.aes.specs.Reply.{Check}
 use Rattle.aes.proofs.Replies.{telling}
-use Rattle.masked.specs.Mask.{published, maskedBoxes, allCompensations}
+use Rattle.masks.specs.Mask.{published, maskedBoxes, allCompensations}
 use Rattle.masked.specs.Run.{maskedCipher}
 use Rattle.masked.specs.Calls.{publishedChecks, refusal}
 use Rattle.masked.proofs.Checked.{refused, passed, published-refusal, sizes}
@@ -37,7 +37,7 @@ lent c κs =
     let a = passed-on .before .before .before .before .before .before .args in
     let s = sizes (a .schedule .now) (a .input .now) (a .output .now) (a .input .now) (a .offset) (a .form) (passed-on .before .refusal .ensures) (passed-on .if1 .left) in (
       s .schedule,
-      boxes .stored .ensures ∙ ap maskedBoxes (sym (masks .published .ensures)),
+      boxes .boxes .ensures ∙ ap maskedBoxes (sym (masks .published .ensures)),
       constants .stored-compensations .ensures ∙ ap allCompensations (sym (masks .published .ensures)),
       s .output,
     )

@@ -11,10 +11,10 @@ use Rattle.aes.specs.Reply.{Check}
 use Rattle.aes.specs.Held.{Holds}
 use Rattle.aes.proofs.Replies.{telling}
 use Rattle.aes.proofs.Part.{holds-none, holds-all}
-use Rattle.masked.specs.Mask.{published, maskedBoxes, allCompensations, inRow}
+use Rattle.masks.specs.Mask.{published, maskedBoxes, allCompensations, inRow}
 use Rattle.masked.specs.Run.{maskedCipher}
 use Rattle.masked.specs.Calls.{blocksChecks}
-use Rattle.masked.proofs.Row.{one-more, ended, row-size, row-lent}
+use Rattle.masks.proofs.Row.{one-more, ended, row-size, row-lent}
 use Rattle.masked.proofs.Checked.{refused, passed}
 use Rattle.masked.proofs.Batch.{ciphers, masked-size, Passed, passed-blocks, as-single}
 use Rattle.masked.proofs.calls.many.encrypt_blocks.Statement.{statement}
@@ -58,7 +58,7 @@ lent c κs =
     let masks = boxes .before in
     let l = at-loop .loop in (
       l .inv .1 .schedule,
-      boxes .stored .ensures ∙ ap maskedBoxes (sym (masks .published .ensures)),
+      boxes .boxes .ensures ∙ ap maskedBoxes (sym (masks .published .ensures)),
       constants .stored-compensations .ensures ∙ ap allCompensations (sym (masks .published .ensures)),
       c .unrecorded-arg .given .2 ∙ width (l .k),
     )

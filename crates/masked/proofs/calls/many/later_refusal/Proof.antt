@@ -11,7 +11,7 @@ use lib.ListN.{length}
 use Rattle.aes.specs.Byte.{below}
 use Rattle.aes.specs.State.{at}
 use Rattle.aes.proofs.Below.{below-more, below-not}
-use Rattle.masked.proofs.Row.{ended}
+use Rattle.masks.proofs.Row.{ended}
 use Rattle.masked.proofs.calls.many.later_refusal.Statement.{statement}
 use Rattle.masked.proofs.calls.many.later_refusal.Tie as tie
 

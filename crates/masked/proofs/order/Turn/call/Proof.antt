@@ -28,7 +28,7 @@ returns c =
     let a = start .args in
     let i : read .read .result ≡ at boxOrder (a .self .0) = read .read .ensures ∙ called .position .ensures .0 in
     let p : ℕ = at boxOrder (a .self .0) in
-    let l-is : over .over .result .0 ≡ (a .l .0 + p) % 16 = over .over .ensures ∙ ap (λ (j : ℕ). (a .l .0 + j) % 16) (called .position .ensures .0) in
+    let l-is : over .over .result .0 ≡ (a .l .0 + p) % 16 = over .over .ensures .0 ∙ ap (λ (j : ℕ). (a .l .0 + j) % 16) (called .position .ensures .0) in
     let answer : answered .entry .result ≡ at (boxedBy (a .boxes .now) (a .l .0) (a .s .now)) p =
     answered .entry .ensures ∙ (λ j. at (a .boxes .now) (256 * l-is j + at (a .s .now) (i j)))
     ∙ sym (boxed-at (a .boxes .now) (a .l .0) (a .s .now) p (order-below (a .self .0) (start .pre .2))) in

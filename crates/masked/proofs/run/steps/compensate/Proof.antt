@@ -5,7 +5,7 @@ use mathlib.Core.Path.{ap, _∙_}
 use Prim.Native.Nat.{ℕ}
 use borrow.Author.Needs.{needs}
 use Rattle.aes.specs.Key.{roundKey}
-use Rattle.masked.specs.Mask.{_⊞_}
+use Rattle.masks.specs.Mask.{_⊞_}
 use Rattle.masked.proofs.run.steps.compensate.Statement.{statement}
 use Rattle.masked.proofs.run.steps.compensate.Tie as tie
 

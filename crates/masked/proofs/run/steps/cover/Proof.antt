@@ -4,7 +4,7 @@ use mathlib.Core.Path.{ap, _∙_}
 use mathlib.Core.List.{List}
 use Prim.Native.Nat.{ℕ}
 use borrow.Author.Needs.{needs}
-use Rattle.masked.specs.Mask.{_⊞_, mask}
+use Rattle.masks.specs.Mask.{_⊞_, mask}
 use Rattle.masked.proofs.run.steps.cover.Statement.{statement}
 use Rattle.masked.proofs.run.steps.cover.Tie as tie
 

@@ -4,7 +4,7 @@ use mathlib.Core.List.{List}
 use mathlib.Core.Path.{ap, _∙_}
 use Prim.Native.Nat.{ℕ}
 use borrow.Author.Needs.{needs}
-use Rattle.masked.specs.Mask.{_⊞_, ending}
+use Rattle.masks.specs.Mask.{_⊞_, ending}
 use Rattle.masked.proofs.run.steps.uncover.Statement.{statement}
 use Rattle.masked.proofs.run.steps.uncover.Tie as tie
 

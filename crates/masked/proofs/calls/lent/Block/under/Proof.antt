@@ -4,7 +4,7 @@ use mathlib.Core.List.{List}
 use mathlib.Core.Path.{_∙_, ap}
 use Prim.Native.Nat.{ℕ}
 use borrow.Author.Needs.{needs}
-use Rattle.masked.specs.Mask.{_⊞_}
+use Rattle.masks.specs.Mask.{_⊞_}
 use Rattle.masked.proofs.calls.lent.Block.under.Statement.{statement}
 use Rattle.masked.proofs.calls.lent.Block.under.Tie as tie
 

@@ -1,0 +1,6 @@
+pub mod Row
+pub mod Stored
+pub mod Columns
+pub mod Turned
+pub mod Endings
+pub mod Unique

@@ -1,0 +1,8 @@
+-- The lent place has 4,096 bytes.
+-- Assumes nothing.
+use borrow.Author.Needs.{needs}
+use Rattle.masks.proofs.boxes.made.Statement.{statement}
+use Rattle.masks.proofs.boxes.made.Tie as tie
+
+pub made-spec : {M : Type 1} → statement M
+made-spec = tie.close (tie.spec (λ c κs. search needs) (λ c. c .filled .ensures))

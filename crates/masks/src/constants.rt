@@ -1,0 +1,109 @@
+// The published masks of document 002, and the constants that are made of masks.
+ghost use mathlib.Core.Path.{_≡_};
+ghost use Prim.Native.Nat.{_<_};
+ghost use lib.ListN.{length};
+ghost use Rattle.masks.specs.Mask.{published, mask, compensation, inRow, allCompensations, ending};
+ghost use Rattle.aes.specs.Held.{Holds};
+use crate::label::Label;
+use crate::label::Position;
+use crate::parts::moved;
+use crate::parts::row;
+use aes::add;
+use aes::mix_columns;
+use aes::shift_rows;
+
+const MASKS: [u8; 16] = *b"\
+\x00\x0f\x36\x39\x53\x5c\x65\x6a\x95\x9a\xa3\xac\xc6\xc9\xf0\xff";
+
+// Compensation(0) to Compensation(15) for the published masks.
+const COMPENSATIONS: [u8; 256] = *b"\
+\xb8\xb6\x2d\x23\x89\x12\x1c\x87\xb8\xb6\x2d\x23\x89\x12\x1c\x87\
+\x12\x1c\x10\x8b\xb6\x2d\x85\x8b\x12\x1c\x10\x8b\xb6\x2d\x85\x8b\
+\x2d\x85\x89\xb4\x1c\x10\xb8\x21\x2d\x85\x89\xb4\x1c\x10\xb8\x21\
+\x10\x2d\x23\x1e\x85\x1c\x87\x1e\x10\x2d\x23\x1e\x85\x1c\x87\x1e\
+\x89\x12\x1c\x87\xb8\xb6\x2d\x23\x89\x12\x1c\x87\xb8\xb6\x2d\x23\
+\xb6\x2d\x85\x8b\x12\x1c\x10\x8b\xb6\x2d\x85\x8b\x12\x1c\x10\x8b\
+\x1c\x10\xb8\x21\x2d\x85\x89\xb4\x1c\x10\xb8\x21\x2d\x85\x89\xb4\
+\x85\x1c\x87\x1e\x10\x2d\x23\x1e\x85\x1c\x87\x1e\x10\x2d\x23\x1e\
+\xb8\xb6\x2d\x23\x89\x12\x1c\x87\xb8\xb6\x2d\x23\x89\x12\x1c\x87\
+\x12\x1c\x10\x8b\xb6\x2d\x85\x8b\x12\x1c\x10\x8b\xb6\x2d\x85\x8b\
+\x2d\x85\x89\xb4\x1c\x10\xb8\x21\x2d\x85\x89\xb4\x1c\x10\xb8\x21\
+\x10\x2d\x23\x1e\x85\x1c\x87\x1e\x10\x2d\x23\x1e\x85\x1c\x87\x1e\
+\x89\x12\x1c\x87\xb8\xb6\x2d\x23\x89\x12\x1c\x87\xb8\xb6\x2d\x23\
+\xb6\x2d\x85\x8b\x12\x1c\x10\x8b\xb6\x2d\x85\x8b\x12\x1c\x10\x8b\
+\x1c\x10\xb8\x21\x2d\x85\x89\xb4\x1c\x10\xb8\x21\x2d\x85\x89\xb4\
+\x85\x1c\x87\x1e\x10\x2d\x23\x1e\x85\x1c\x87\x1e\x10\x2d\x23\x1e";
+
+// M0 to M15.
+pub fn published() -> [u8; 16]
+    ensures { λ r. ⌜ r ≡ published ⌝ }
+{
+    MASKS
+}
+
+pub fn stored_compensations() -> [u8; 256]
+    ensures { λ r. ⌜ r ≡ allCompensations published ⌝ }
+{
+    COMPENSATIONS
+}
+
+// Mask(l).
+pub fn mask(masks: [u8; 16], l: Label) -> [u8; 16]
+    ensures { λ r. ⌜ r ≡ mask masks (l .0) ⌝ }
+{
+    let mut r = [0u8; 16];
+    let mut p = Position::FIRST;
+    while p.read() < 16 {
+        let i = p.read();
+        r[i] = masks[l.over(p).read()];
+        let next = p.next();
+        p = next;
+    }
+    r
+}
+
+// The last constant of a run, by the mask that covers its finished block.
+pub fn ending(form: u8, m: [u8; 16]) -> [u8; 16]
+    ensures { λ r. ⌜ r ≡ ending form m ⌝ }
+{
+    if form == 0 {
+        return shift_rows(m);
+    }
+    add(m, shift_rows(m))
+}
+
+// Compensation(0) to Compensation(15) for any masks, to the lent place. Each is the one of the label four before it turned by a
+// column, so the first four are all that is worked out.
+pub fn compensations(masks: [u8; 16], r: &mut [u8; 256])
+    ensures { λ _. ⌜ now (r .exit) ≡ allCompensations masks ⌝ }
+{
+    first_four(masks, r);
+    let mut y = 64;
+    while y < 256 {
+        moved(r, y - 60, y, 12);
+        moved(r, y - 64, y + 12, 4);
+        y += 16;
+    }
+}
+
+fn first_four(masks: [u8; 16], r: &mut [u8])
+    requires { ⌜ length (now r) ≡ 256 ⌝ }
+    ensures { λ _. ⌜ Holds 256 (inRow (compensation masks) 4) (now (r .exit)) ⌝ }
+{
+    let mut l = Label::FIRST;
+    let mut n = 0;
+    while n < 4 {
+        let c = compensation(masks, l);
+        row(&c, 0, 0, r, 16 * n);
+        let m = l.next();
+        l = m;
+        n += 1;
+    }
+}
+
+fn compensation(masks: [u8; 16], l: Label) -> [u8; 16]
+    ensures { λ r. ⌜ r ≡ compensation masks (l .0) ⌝ }
+{
+    let m = mask(masks, l);
+    add(m, mix_columns(shift_rows(m)))
+}
