@@ -7,7 +7,11 @@
 #include "translated.h"
 
 // The longest input that is tried is one block longer than any that is taken.
-enum { CASES = 20, UNTOUCHED = 0xa5, LONGEST = BLOCK_BYTES * (MOST_BLOCKS + 1) };
+enum { CASES = 2, UNTOUCHED = 0xa5, LONGEST = BLOCK_BYTES * (MOST_BLOCKS + 1) };
+
+// The steps that are taken, and the edges between them and the others.
+enum { STEPS = 13, EDGES = 8 };
+static const uint8_t steps[STEPS] = {1, 4, 5, 6, 7, 8, 9, 10, 11, 12, 13, 14, 15}, edges[EDGES] = {0, 1, 2, 3, 4, 15, 16, 255};
 
 static const struct engine *const engines[] = {&library, &translation};
 
@@ -25,21 +29,21 @@ static int same(const uint8_t *a, const uint8_t *b, size_t length)
     return memcmp(a, b, length) == 0;
 }
 
-// What form 1 ends with: the ciphertext under Mask(offset + 14).
-static void cover(uint8_t block[BLOCK_BYTES], const uint8_t *cipher, const uint8_t *masks, size_t offset)
+// What form 1 ends with: the ciphertext under Mask(offset + 14 * step).
+static void cover(uint8_t block[BLOCK_BYTES], const uint8_t *cipher, const uint8_t *masks, size_t offset, size_t step)
 {
     for (size_t i = 0; i < BLOCK_BYTES; i++)
-        block[i] = cipher[i] ^ masks[(offset + 14 + i) % MASK_BYTES];
+        block[i] = cipher[i] ^ masks[(offset + 14 * step + i) % MASK_BYTES];
 }
 
-// One of NIST's vectors. The offset goes with its number, and its key's first half are the lent masks.
+// One of NIST's vectors. Offset and step go with its number, and its key's first half are the lent masks.
 static void check_block(const struct vectors *vectors, size_t number, size_t engine)
 {
     const struct engine *e = engines[engine];
     const uint8_t *key = vectors->block[number].key, *masks = key;
     const uint8_t *plain = vectors->block[number].plain, *cipher = vectors->block[number].cipher;
     uint8_t schedule[SCHEDULE_BYTES], output[BLOCK_BYTES], form_1[BLOCK_BYTES], states[RECORD_BYTES];
-    uint8_t offset = (uint8_t)(number % 16);
+    uint8_t offset = (uint8_t)(number % 16), step = steps[number % STEPS];
 
     memset(output, UNTOUCHED, BLOCK_BYTES);
     memset(states, UNTOUCHED, RECORD_BYTES);
@@ -48,17 +52,17 @@ static void check_block(const struct vectors *vectors, size_t number, size_t eng
     expect(same(output, cipher, BLOCK_BYTES), engine, ENCRYPT, "vector", number + 1);
     e->decrypt(schedule, SCHEDULE_BYTES, cipher, BLOCK_BYTES, output, BLOCK_BYTES);
     expect(same(output, plain, BLOCK_BYTES), engine, DECRYPT, "vector", number + 1);
-    e->encrypt_published(schedule, SCHEDULE_BYTES, plain, BLOCK_BYTES, output, BLOCK_BYTES, offset, 0);
+    e->encrypt_published(schedule, SCHEDULE_BYTES, plain, BLOCK_BYTES, output, BLOCK_BYTES, offset, step, 0);
     expect(same(output, cipher, BLOCK_BYTES), engine, ENCRYPT_PUBLISHED, "vector", number + 1);
-    e->encrypt_published(schedule, SCHEDULE_BYTES, plain, BLOCK_BYTES, output, BLOCK_BYTES, offset, 1);
-    cover(form_1, cipher, published_masks, offset);
+    e->encrypt_published(schedule, SCHEDULE_BYTES, plain, BLOCK_BYTES, output, BLOCK_BYTES, offset, step, 1);
+    cover(form_1, cipher, published_masks, offset, step);
     expect(same(output, form_1, BLOCK_BYTES), engine, ENCRYPT_PUBLISHED, "vector", number + 1);
-    e->encrypt_masked(schedule, SCHEDULE_BYTES, plain, BLOCK_BYTES, output, BLOCK_BYTES, masks, MASK_BYTES, offset, 0);
+    e->encrypt_masked(schedule, SCHEDULE_BYTES, plain, BLOCK_BYTES, output, BLOCK_BYTES, masks, MASK_BYTES, offset, step, 0);
     expect(same(output, cipher, BLOCK_BYTES), engine, ENCRYPT_MASKED, "vector", number + 1);
-    e->encrypt_masked(schedule, SCHEDULE_BYTES, plain, BLOCK_BYTES, output, BLOCK_BYTES, masks, MASK_BYTES, offset, 1);
-    cover(form_1, cipher, masks, offset);
+    e->encrypt_masked(schedule, SCHEDULE_BYTES, plain, BLOCK_BYTES, output, BLOCK_BYTES, masks, MASK_BYTES, offset, step, 1);
+    cover(form_1, cipher, masks, offset, step);
     expect(same(output, form_1, BLOCK_BYTES), engine, ENCRYPT_MASKED, "vector", number + 1);
-    e->record_masked(schedule, SCHEDULE_BYTES, plain, BLOCK_BYTES, masks, MASK_BYTES, offset, states, RECORD_BYTES);
+    e->record_masked(schedule, SCHEDULE_BYTES, plain, BLOCK_BYTES, masks, MASK_BYTES, offset, step, states, RECORD_BYTES);
     expect(same(states + RECORD_BYTES - BLOCK_BYTES, cipher, BLOCK_BYTES), engine, RECORD_MASKED, "vector", number + 1);
 }
 
@@ -72,7 +76,8 @@ static size_t under_one_key(const struct vectors *vectors, size_t first)
     return count;
 }
 
-// The vectors from one on that are under its key, in one call. The offsets go with their numbers. Gives how many they are.
+// The vectors from one on that are under its key, in one call for each step and form. The offsets go with their numbers. Gives how
+// many they are.
 static size_t check_many(const struct vectors *vectors, size_t first, size_t engine)
 {
     uint8_t schedule[SCHEDULE_BYTES], offsets[MOST_BLOCKS], input[LONGEST], output[LONGEST], form_1[BLOCK_BYTES];
@@ -83,12 +88,13 @@ static size_t check_many(const struct vectors *vectors, size_t first, size_t eng
         offsets[k] = (uint8_t)((first + k) % 16);
     }
     library.expand_key(vectors->block[first].key, KEY_BYTES, schedule, SCHEDULE_BYTES);
-    for (uint8_t form = 0; form < 2; form++) {
+    for (size_t choice = 0; choice < 2 * STEPS; choice++) {
+        uint8_t form = (uint8_t)(choice % 2), step = steps[choice / 2];
         memset(output, UNTOUCHED, length);
-        engines[engine]->encrypt_blocks(schedule, SCHEDULE_BYTES, input, length, output, length, offsets, count, form);
+        engines[engine]->encrypt_blocks(schedule, SCHEDULE_BYTES, input, length, output, length, offsets, count, step, form);
         for (size_t k = 0; k < count; k++) {
             const uint8_t *cipher = vectors->block[first + k].cipher;
-            cover(form_1, cipher, published_masks, offsets[k]);
+            cover(form_1, cipher, published_masks, offsets[k], step);
             expect(same(output + BLOCK_BYTES * k, form == 0 ? cipher : form_1, BLOCK_BYTES), engine, ENCRYPT_BLOCKS, "vector",
                    first + k + 1);
         }
@@ -111,7 +117,7 @@ static void check_appendix(const struct vectors *vectors, size_t engine)
     memset(plain, UNTOUCHED, RECORD_BYTES);
     memset(covered, UNTOUCHED, RECORD_BYTES);
     e->record_plain(schedule, SCHEDULE_BYTES, block, BLOCK_BYTES, plain, RECORD_BYTES);
-    e->record_masked(schedule, SCHEDULE_BYTES, block, BLOCK_BYTES, no_masks, MASK_BYTES, 0, covered, RECORD_BYTES);
+    e->record_masked(schedule, SCHEDULE_BYTES, block, BLOCK_BYTES, no_masks, MASK_BYTES, 0, 1, covered, RECORD_BYTES);
     for (size_t i = 0; i < RECORD_BYTES; i++) {
         expect(plain[i] == vectors->states[i], engine, RECORD_PLAIN, "byte of C.3's states", i);
         expect(covered[i] == vectors->states[i], engine, RECORD_MASKED, "byte of C.3's states", i);
@@ -128,11 +134,12 @@ static void draw(uint8_t *bytes, size_t length)
     }
 }
 
-// A call of both engines: lengths, offset and form are given, and everything that a call can write is compared, reply and bytes.
+// A call of both engines: lengths, offset, step and form are given, and everything that a call can write is compared, reply and
+// bytes.
 struct arguments {
     size_t key, schedule, input, output, masks, states, offsets;
     // Of many offsets this is the last; those before it are in range.
-    uint8_t offset, form;
+    uint8_t offset, step, form;
 };
 
 static void compare(enum call call, const struct arguments *a, size_t number)
@@ -162,42 +169,47 @@ static void compare(enum call call, const struct arguments *a, size_t number)
             reply[i] = e->decrypt(schedule, a->schedule, input, a->input, to, a->output);
             break;
         case ENCRYPT_PUBLISHED:
-            reply[i] = e->encrypt_published(schedule, a->schedule, input, a->input, to, a->output, a->offset, a->form);
+            reply[i] = e->encrypt_published(schedule, a->schedule, input, a->input, to, a->output, a->offset, a->step,
+                                            a->form);
             break;
         case ENCRYPT_BLOCKS:
-            reply[i] = e->encrypt_blocks(schedule, a->schedule, input, a->input, to, a->output, offsets, a->offsets, a->form);
+            reply[i] = e->encrypt_blocks(schedule, a->schedule, input, a->input, to, a->output, offsets, a->offsets, a->step,
+                                         a->form);
             break;
         case ENCRYPT_MASKED:
             reply[i] = e->encrypt_masked(schedule, a->schedule, input, a->input, to, a->output, masks, a->masks, a->offset,
-                                         a->form);
+                                         a->step, a->form);
             break;
         case RECORD_PLAIN:
             reply[i] = e->record_plain(schedule, a->schedule, input, a->input, to, a->states);
             break;
         default:
-            reply[i] = e->record_masked(schedule, a->schedule, input, a->input, masks, a->masks, a->offset, to, a->states);
+            reply[i] = e->record_masked(schedule, a->schedule, input, a->input, masks, a->masks, a->offset, a->step, to,
+                                        a->states);
         }
     }
     expect(reply[0] == reply[1] && same(written[0], written[1], sizeof written[0]), 1, call, "comparison", number);
 }
 
-static const struct arguments taken = {KEY_BYTES, SCHEDULE_BYTES, BLOCK_BYTES, BLOCK_BYTES, MASK_BYTES, RECORD_BYTES, 1, 0, 0};
+static const struct arguments taken = {KEY_BYTES, SCHEDULE_BYTES, BLOCK_BYTES, BLOCK_BYTES, MASK_BYTES, RECORD_BYTES, 1, 0, 1, 0};
 
 static void compare_taken(enum call call)
 {
     struct arguments a = taken;
     size_t number = 0;
-    for (size_t i = 0; i < CASES; i++)
+    for (size_t i = 0; i < CASES * STEPS; i++) {
+        a.step = steps[i % STEPS];
         for (a.offset = 0; a.offset < 16; a.offset++)
             for (a.form = 0; a.form < 2; a.form++)
                 compare(call, &a, ++number);
+    }
 }
 
-// Each of the arguments too small, right or too great, all together.
+// Each of the arguments too small, right or too great, all together, with each of the steps at the edges.
 static void compare_refused(enum call call)
 {
     struct arguments a = taken;
-    for (size_t choice = 0; choice < 3 * 3 * 3 * 3 * 3 * 3 * 2 * 2; choice++) {
+    for (size_t choice = 0; choice < 3 * 3 * 3 * 3 * 3 * 3 * 2 * 2 * EDGES; choice++) {
         size_t rest = choice;
         a.key = taken.key - 1 + rest % 3;
         a.schedule = taken.schedule - 1 + (rest /= 3) % 3;
@@ -206,7 +218,8 @@ static void compare_refused(enum call call)
         a.masks = taken.masks - 1 + (rest /= 3) % 3;
         a.states = taken.states - 1 + (rest /= 3) % 3;
         a.offset = (uint8_t)(15 + (rest /= 3) % 2);
-        a.form = (uint8_t)(1 + rest / 2);
+        a.form = (uint8_t)(1 + (rest /= 2) % 2);
+        a.step = edges[rest / 2];
         compare(call, &a, choice + 1);
     }
 }
@@ -219,23 +232,26 @@ static void compare_many_taken(void)
         for (a.form = 0; a.form < 2; a.form++) {
             a.input = a.output = BLOCK_BYTES * a.offsets;
             a.offset = (uint8_t)(a.offsets % 16);
+            a.step = steps[a.offsets % STEPS];
             compare(ENCRYPT_BLOCKS, &a, a.offsets);
         }
 }
 
-// Lengths about no block, one block and the most, each with each, and an offset and a form that are right or too great.
+// Lengths about no block, one block and the most, each with each, an offset and a form that are right or too great, and steps at
+// the edges.
 static void compare_many_refused(void)
 {
     static const size_t lengths[] = {0, 15, 16, 17, 4095, 4096, 4097, 4112}, counts[] = {0, 1, 2, 255, 256, 257};
     struct arguments a = taken;
-    for (size_t choice = 0; choice < 8 * 8 * 6 * 3 * 2 * 2; choice++) {
+    for (size_t choice = 0; choice < 8 * 8 * 6 * 3 * 2 * 2 * EDGES; choice++) {
         size_t rest = choice;
         a.input = lengths[rest % 8];
         a.output = lengths[(rest /= 8) % 8];
         a.offsets = counts[(rest /= 8) % 6];
         a.schedule = taken.schedule - 1 + (rest /= 6) % 3;
         a.offset = (uint8_t)(15 + (rest /= 3) % 2);
-        a.form = (uint8_t)(1 + rest / 2);
+        a.form = (uint8_t)(1 + (rest /= 2) % 2);
+        a.step = edges[rest / 2];
         compare(ENCRYPT_BLOCKS, &a, choice + 1);
     }
 }

@@ -1,5 +1,5 @@
-// The eight calls that are measured, of the library and of its C translation, under the same arguments: a slice goes as a pointer
-// and a length.
+// The calls that are measured, of the library and of its C translation, under the same arguments: a slice goes as a pointer and a
+// length.
 #ifndef ENGINE_H
 #define ENGINE_H
 
@@ -8,9 +8,22 @@
 
 enum { KEY_BYTES = 32, SCHEDULE_BYTES = 240, BLOCK_BYTES = 16, MASK_BYTES = 16, RECORD_BYTES = 1136, MOST_BLOCKS = 256 };
 
-enum call { EXPAND_KEY, ENCRYPT, DECRYPT, ENCRYPT_PUBLISHED, ENCRYPT_BLOCKS, ENCRYPT_MASKED, RECORD_PLAIN, RECORD_MASKED, CALLS };
+// After the eight calls comes one of them once more, with another step than 1, which makes it work out its boxes.
+enum call {
+    EXPAND_KEY,
+    ENCRYPT,
+    DECRYPT,
+    ENCRYPT_PUBLISHED,
+    ENCRYPT_BLOCKS,
+    ENCRYPT_MASKED,
+    RECORD_PLAIN,
+    RECORD_MASKED,
+    CALLS,
+    ENCRYPT_PUBLISHED_STEP_5 = CALLS,
+    MEASURED,
+};
 
-extern const char *const call_names[CALLS];
+extern const char *const call_names[MEASURED];
 
 struct engine {
     const char *name;
@@ -20,17 +33,18 @@ struct engine {
     uint8_t (*decrypt)(const uint8_t *schedule, size_t schedule_length, const uint8_t *input, size_t input_length,
                        uint8_t *output, size_t output_length);
     uint8_t (*encrypt_published)(const uint8_t *schedule, size_t schedule_length, const uint8_t *input, size_t input_length,
-                                 uint8_t *output, size_t output_length, uint8_t offset, uint8_t form);
+                                 uint8_t *output, size_t output_length, uint8_t offset, uint8_t step, uint8_t form);
     uint8_t (*encrypt_blocks)(const uint8_t *schedule, size_t schedule_length, const uint8_t *input, size_t input_length,
                               uint8_t *output, size_t output_length, const uint8_t *offsets, size_t offsets_length,
-                              uint8_t form);
+                              uint8_t step, uint8_t form);
     uint8_t (*encrypt_masked)(const uint8_t *schedule, size_t schedule_length, const uint8_t *input, size_t input_length,
                               uint8_t *output, size_t output_length, const uint8_t *masks, size_t masks_length, uint8_t offset,
-                              uint8_t form);
+                              uint8_t step, uint8_t form);
     uint8_t (*record_plain)(const uint8_t *schedule, size_t schedule_length, const uint8_t *input, size_t input_length,
                             uint8_t *states, size_t states_length);
     uint8_t (*record_masked)(const uint8_t *schedule, size_t schedule_length, const uint8_t *input, size_t input_length,
-                             const uint8_t *masks, size_t masks_length, uint8_t offset, uint8_t *states, size_t states_length);
+                             const uint8_t *masks, size_t masks_length, uint8_t offset, uint8_t step, uint8_t *states,
+                             size_t states_length);
 };
 
 extern const struct engine library, translation;

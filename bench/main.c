@@ -64,8 +64,8 @@ static int named(const struct maker *maker, char **ids, int count)
 
 static int time_all(char **ids, int id_count)
 {
-    static double taken[CALLS][MOST_MAKERS][BATCHES];
-    static long times[CALLS][MOST_MAKERS];
+    static double taken[MEASURED][MOST_MAKERS][BATCHES];
+    static long times[MEASURED][MOST_MAKERS];
     struct maker all[MOST_MAKERS], makers[MOST_MAKERS];
     size_t count = 0, all_count = list_makers(all);
     for (size_t i = 0; i < all_count; i++)
@@ -74,7 +74,7 @@ static int time_all(char **ids, int id_count)
             start(&all[i]);
         }
     for (int batch = -1; batch < BATCHES; batch++)
-        for (int call = 0; call < CALLS; call++)
+        for (int call = 0; call < MEASURED; call++)
             for (size_t i = 0; i < count; i++) {
                 long *calls = &times[call][i];
                 if (batch < 0)
@@ -82,7 +82,7 @@ static int time_all(char **ids, int id_count)
                 else if (*calls > 0)
                     taken[call][i][batch] = nanoseconds(&makers[i], (enum call)call, *calls) / (double)*calls;
             }
-    for (int call = 0; call < CALLS; call++)
+    for (int call = 0; call < MEASURED; call++)
         for (size_t i = 0; i < count; i++) {
             double *sorted = taken[call][i];
             if (times[call][i] == 0)
@@ -114,7 +114,7 @@ static int repeat_calls(const char *id, char **times, int call_count)
         return 2;
     }
     start(&makers[i]);
-    for (int call = 0; call < call_count && call < CALLS && has_call(&makers[i], (enum call)call); call++)
+    for (int call = 0; call < call_count && call < MEASURED && has_call(&makers[i], (enum call)call); call++)
         repeat(&makers[i], (enum call)call, strtol(times[call], NULL, 10));
     return 0;
 }

@@ -46,7 +46,7 @@ static struct {
     uint8_t blocks[BLOCK_BYTES * MOST_BLOCKS], outputs[BLOCK_BYTES * MOST_BLOCKS], offsets[MOST_BLOCKS];
 } work;
 
-enum { OFFSET = 5, FORM = 0 };
+enum { OFFSET = 5, STEP = 1, FORM = 0 };
 
 void start(const struct maker *maker)
 {
@@ -82,17 +82,23 @@ static void repeat_engine(const struct engine *e, enum call call, long times)
         break;
     case ENCRYPT_PUBLISHED:
         while (times-- > 0)
-            e->encrypt_published(work.schedule, SCHEDULE_BYTES, work.plain, BLOCK_BYTES, work.output, BLOCK_BYTES, OFFSET, FORM);
+            e->encrypt_published(work.schedule, SCHEDULE_BYTES, work.plain, BLOCK_BYTES, work.output, BLOCK_BYTES, OFFSET, STEP,
+                                 FORM);
+        break;
+    case ENCRYPT_PUBLISHED_STEP_5:
+        while (times-- > 0)
+            e->encrypt_published(work.schedule, SCHEDULE_BYTES, work.plain, BLOCK_BYTES, work.output, BLOCK_BYTES, OFFSET, 5,
+                                 FORM);
         break;
     case ENCRYPT_BLOCKS:
         while (times-- > 0)
             e->encrypt_blocks(work.schedule, SCHEDULE_BYTES, work.blocks, sizeof work.blocks, work.outputs, sizeof work.outputs,
-                              work.offsets, MOST_BLOCKS, FORM);
+                              work.offsets, MOST_BLOCKS, STEP, FORM);
         break;
     case ENCRYPT_MASKED:
         while (times-- > 0)
             e->encrypt_masked(work.schedule, SCHEDULE_BYTES, work.plain, BLOCK_BYTES, work.output, BLOCK_BYTES, published_masks,
-                              MASK_BYTES, OFFSET, FORM);
+                              MASK_BYTES, OFFSET, STEP, FORM);
         break;
     case RECORD_PLAIN:
         while (times-- > 0)
@@ -101,7 +107,7 @@ static void repeat_engine(const struct engine *e, enum call call, long times)
     default:
         while (times-- > 0)
             e->record_masked(work.schedule, SCHEDULE_BYTES, work.plain, BLOCK_BYTES, published_masks, MASK_BYTES, OFFSET,
-                             work.states, RECORD_BYTES);
+                             STEP, work.states, RECORD_BYTES);
     }
 }
 

@@ -27,7 +27,8 @@ int has_call(const struct maker *maker, enum call call);
 // What a maker needs before its calls are repeated.
 void start(const struct maker *maker);
 
-// Makes a call so many times, on the key and block of FIPS 197 C.3: a call of many blocks on 256 of it, at all offsets in turn.
+// Makes a call so many times, on the key and block of FIPS 197 C.3, with step 1 where its name has no other: a call of many blocks
+// on 256 of it, at all offsets in turn.
 void repeat(const struct maker *maker, enum call call, long times);
 
 // Holds the peers to FIPS 197 C.3. Prints a line for each that is wrong; gives 1 where none is.

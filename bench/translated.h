@@ -17,6 +17,7 @@ enum reply {
     FORM_UNKNOWN = 7,
     RECORD_LENGTH = 8,
     OFFSETS_LENGTH = 14,
+    STEP_WRONG = 15,
 };
 
 uint8_t translated_expand_key(const uint8_t *key, size_t key_length, uint8_t *schedule, size_t schedule_length);
@@ -30,22 +31,23 @@ uint8_t translated_decrypt(const uint8_t *schedule, size_t schedule_length, cons
 uint8_t translated_record_plain(const uint8_t *schedule, size_t schedule_length, const uint8_t *input, size_t input_length,
                                 uint8_t *states, size_t states_length);
 
-// Works out the boxes and constants of the published masks, which the library has stored: once, before the calls that read them.
+// Works out the boxes with step 1 and the constants of the published masks, which the library has stored: once, before the calls
+// that read them.
 void translated_prepare(void);
 
 uint8_t translated_encrypt_published(const uint8_t *schedule, size_t schedule_length, const uint8_t *input, size_t input_length,
-                                     uint8_t *output, size_t output_length, uint8_t offset, uint8_t form);
+                                     uint8_t *output, size_t output_length, uint8_t offset, uint8_t step, uint8_t form);
 
 uint8_t translated_encrypt_blocks(const uint8_t *schedule, size_t schedule_length, const uint8_t *input, size_t input_length,
                                   uint8_t *output, size_t output_length, const uint8_t *offsets, size_t offsets_length,
-                                  uint8_t form);
+                                  uint8_t step, uint8_t form);
 
 uint8_t translated_encrypt_masked(const uint8_t *schedule, size_t schedule_length, const uint8_t *input, size_t input_length,
                                   uint8_t *output, size_t output_length, const uint8_t *masks, size_t masks_length,
-                                  uint8_t offset, uint8_t form);
+                                  uint8_t offset, uint8_t step, uint8_t form);
 
 uint8_t translated_record_masked(const uint8_t *schedule, size_t schedule_length, const uint8_t *input, size_t input_length,
-                                 const uint8_t *masks, size_t masks_length, uint8_t offset, uint8_t *states,
+                                 const uint8_t *masks, size_t masks_length, uint8_t offset, uint8_t step, uint8_t *states,
                                  size_t states_length);
 
 #endif

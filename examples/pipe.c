@@ -1,7 +1,7 @@
 /*
  * A pipe's key is one AES-256 block, made twice: at the rack by the plain engine, and in the module by the masked one, at an
- * offset from 0 to 15. Here both make it from the key and the block of FIPS 197, C.3, and must come to the ciphertext there. At
- * session change the keys of all pipes are made in one call.
+ * offset from 0 to 15, with the step of the module's series. Here both make it from the key and the block of FIPS 197, C.3, and
+ * must come to the ciphertext there. At session change the keys of all pipes are made in one call.
  *
  *     cc pipe.c $(pkg-config --cflags --libs slipgrease) -o pipe && ./pipe
  */
@@ -20,6 +20,9 @@ static const uint8_t standard[SLIPGREASE_BLOCK_BYTES] = {
 /* The published masks, which slipgrease_encrypt_published uses. They are needed here to uncover a block of form 1. */
 static const uint8_t masks[SLIPGREASE_MASKS_BYTES] = {
     0x00, 0x0f, 0x36, 0x39, 0x53, 0x5c, 0x65, 0x6a, 0x95, 0x9a, 0xa3, 0xac, 0xc6, 0xc9, 0xf0, 0xff};
+
+/* The steps of two series of modules, so that they share no sequence of masks. */
+enum { STEP = 1, OTHER_STEP = 5 };
 
 static void print_block(const char *name, const uint8_t *bytes)
 {
@@ -73,7 +76,7 @@ static void session_change(const uint8_t *schedule)
     for (size_t pipe = 0; pipe < PIPES; pipe++)
         blocks[pipe * SLIPGREASE_BLOCK_BYTES] = (uint8_t)pipe;
     uint8_t reply = slipgrease_encrypt_blocks(
-        schedule, SLIPGREASE_SCHEDULE_BYTES, blocks, sizeof blocks, keys, sizeof keys, offsets, sizeof offsets, 0);
+        schedule, SLIPGREASE_SCHEDULE_BYTES, blocks, sizeof blocks, keys, sizeof keys, offsets, sizeof offsets, STEP, 0);
     must_be_done(reply, "encrypt_blocks");
     for (size_t at = 0; at < sizeof blocks; at += SLIPGREASE_BLOCK_BYTES) {
         uint8_t rack[SLIPGREASE_BLOCK_BYTES];
@@ -105,29 +108,37 @@ int main(void)
     for (offset = 0; offset < 16; offset++) {
         uint8_t module[SLIPGREASE_BLOCK_BYTES] = {0};
         char name[32];
-        reply = slipgrease_encrypt_published(schedule, sizeof schedule, block, sizeof block, module, sizeof module, offset, 0);
+        reply = slipgrease_encrypt_published(
+            schedule, sizeof schedule, block, sizeof block, module, sizeof module, offset, STEP, 0);
         must_be_done(reply, "encrypt_published");
         must(same(module, rack), "the module makes the key of the rack");
         snprintf(name, sizeof name, "module, offset %d", offset);
         print_block(name, module);
     }
 
+    /* In a module of the other series: other masks from the first boxes on, and the same key. */
+    uint8_t other[SLIPGREASE_BLOCK_BYTES] = {0};
+    reply = slipgrease_encrypt_published(schedule, sizeof schedule, block, sizeof block, other, sizeof other, 3, OTHER_STEP, 0);
+    must_be_done(reply, "encrypt_published, step 5");
+    must(same(other, rack), "a module of the other series makes the key of the rack");
+    print_block("module, step 5", other);
+
     /* There is no offset 16. The call is refused with a number of its own, and its buffer is as it was. */
     uint8_t refused[SLIPGREASE_BLOCK_BYTES] = {0}, zeros[SLIPGREASE_BLOCK_BYTES] = {0};
-    reply = slipgrease_encrypt_published(schedule, sizeof schedule, block, sizeof block, refused, sizeof refused, 16, 0);
+    reply = slipgrease_encrypt_published(schedule, sizeof schedule, block, sizeof block, refused, sizeof refused, 16, STEP, 0);
     must(reply == SLIPGREASE_REPLY_OFFSET_RANGE, "offset 16 is refused with its own number");
     must(slipgrease_sort_reply(reply) == SLIPGREASE_CALLER_FAULT, "a wrong offset is a caller fault");
     must(same(refused, zeros), "a refused call has written nothing");
     printf("%-21srefused with %d, %s\n", "module, offset 16", reply, sorted(reply));
 
-    /* An early module asks for form 1, whose block is still covered: byte i by M(offset + 14 + i), labels modulo 16. */
+    /* An early module asks for form 1, whose block is still covered: byte i by M(offset + 14 * step + i), labels modulo 16. */
     uint8_t early[SLIPGREASE_BLOCK_BYTES] = {0};
     offset = 5;
-    reply = slipgrease_encrypt_published(schedule, sizeof schedule, block, sizeof block, early, sizeof early, offset, 1);
+    reply = slipgrease_encrypt_published(schedule, sizeof schedule, block, sizeof block, early, sizeof early, offset, STEP, 1);
     must_be_done(reply, "encrypt_published, form 1");
     print_block("form 1, offset 5", early);
     for (size_t i = 0; i < sizeof early; i++)
-        early[i] ^= masks[(offset + 14 + i) % 16];
+        early[i] ^= masks[(offset + 14 * STEP + i) % 16];
     must(same(early, rack), "a block of form 1, uncovered, is the key of the rack");
     print_block("form 1, uncovered", early);
     session_change(schedule);

@@ -19,7 +19,8 @@
  *   Nothing else is asked. Every length, alignment, content and number is allowed, and has its answer.
  *
  * Wrong lengths and null pointers
- *   A length that is not the one named below is refused, and not a byte of that buffer is touched. Length 0 is taken by
+ *   A length that is not the one named below is refused, and not a byte of that buffer is touched, except that the mark and the
+ *   version of a sheet are read before its length is judged, where it has these 5 bytes. Length 0 is taken by
  *   slipgrease_encrypt_blocks alone, for no blocks at all, and else refused like any other wrong length; with a null pointer as
  *   with another. (That a null pointer does no harm is tested on the compiled code; the proofs speak of buffers that are there.)
  *
@@ -59,10 +60,11 @@ extern "C" {
 #define SLIPGREASE_REPLY_RECORD_LENGTH 8    /* the buffer for the record is not 1,136 bytes */
 #define SLIPGREASE_REPLY_NO_LOGARITHM 9     /* 00 has no logarithm */
 #define SLIPGREASE_REPLY_POWER_RANGE 10     /* the power is above 254 */
-#define SLIPGREASE_REPLY_SHEET_LENGTH 11    /* the sheet, or the buffer for it, is not 21 bytes */
+#define SLIPGREASE_REPLY_SHEET_LENGTH 11    /* the sheet, or the buffer for it, is not 21 bytes in version 1, 22 in version 2 */
 #define SLIPGREASE_REPLY_MARK_WRONG 12      /* the sheet does not begin with "MSK" */
-#define SLIPGREASE_REPLY_VERSION_UNKNOWN 13 /* the sheet's version is not 1 */
+#define SLIPGREASE_REPLY_VERSION_UNKNOWN 13 /* the sheet's version is neither 1 nor 2 */
 #define SLIPGREASE_REPLY_OFFSETS_LENGTH 14  /* there is not one offset for each block */
+#define SLIPGREASE_REPLY_STEP_WRONG 15      /* the step is 0, 2, 3 or above 15; or 1, in a sheet of version 2 */
 
 /* The lengths that the calls take. */
 #define SLIPGREASE_KEY_BYTES 32
@@ -70,7 +72,8 @@ extern "C" {
 #define SLIPGREASE_BLOCK_BYTES 16
 #define SLIPGREASE_MASKS_BYTES 16
 #define SLIPGREASE_RECORD_BYTES 1136
-#define SLIPGREASE_SHEET_BYTES 21
+#define SLIPGREASE_SHEET_1_BYTES 21
+#define SLIPGREASE_SHEET_2_BYTES 22
 
 /* So many blocks are taken in one call. */
 #define SLIPGREASE_BLOCKS_MAX 256
@@ -124,15 +127,15 @@ uint8_t slipgrease_decrypt(
  *
  *     state                    plain: the state of CIPHER          masked: the plain state, xored with
  *     0                        at the beginning: the block         Mask(o)
- *     5r + 1    r = 0 .. 13    after round key r                   Mask(o+r)
- *     5r + 2    r = 0 .. 13    after the S-boxes                   Mask(o+r+1)
- *     5r + 3    r = 0 .. 13    after ShiftRows                     ShiftRows(Mask(o+r+1))
- *     5r + 4    r = 0 .. 12    after MixColumns                    MixColumns(ShiftRows(Mask(o+r+1)))
- *     5r + 5    r = 0 .. 12    the same (after compensation)       Mask(o+r+1)
- *     69                       after round key 14                  ShiftRows(Mask(o+14))
+ *     5r + 1    r = 0 .. 13    after round key r                   Mask(o+dr)
+ *     5r + 2    r = 0 .. 13    after the S-boxes                   Mask(o+d(r+1))
+ *     5r + 3    r = 0 .. 13    after ShiftRows                     ShiftRows(Mask(o+d(r+1)))
+ *     5r + 4    r = 0 .. 12    after MixColumns                    MixColumns(ShiftRows(Mask(o+d(r+1))))
+ *     5r + 5    r = 0 .. 12    the same (after compensation)       Mask(o+d(r+1))
+ *     69                       after round key 14                  ShiftRows(Mask(o+14d))
  *     70                       the same: what encrypt writes       nothing
  *
- * The last column is of slipgrease_record_masked. No other output block is written.
+ * The last column is of slipgrease_record_masked, at offset o with step d. No other output block is written.
  * Reads schedule, 240 bytes, and input, 16 bytes. Writes record_out, 1,136 bytes.
  * Refusals: 2 SCHEDULE_LENGTH, 3 INPUT_LENGTH, 8 RECORD_LENGTH.
  */
@@ -147,77 +150,84 @@ uint8_t slipgrease_record_plain(
  * A mask table is sixteen bytes, M(0) to M(15). Mask(o) is the sixteen bytes with M(o+i) at byte i, all labels modulo 16; it
  * lies over the state when a run at offset o begins. An offset is 0 to 15. The published masks are
  *     00 0f 36 39 53 5c 65 6a 95 9a a3 ac c6 c9 f0 ff
- * Form 0 is the standard: it ends with the ciphertext of slipgrease_encrypt, at every offset and with any masks. Form 1 is
- * that of the early modules: its block is the ciphertext xored with Mask(o+14), so it is still covered.
+ * From round to round the labels advance by a step d: in round r box j = o+i+dr takes byte i under M(j) and gives it under
+ * M(j+d). A step is 1, or 4 to 15. With 0 a box would keep the mask. The boxes are called at the bytes 0, 2 .. 14 and then
+ * 1, 3 .. 15, and none should take the mask that the one before it has given: with 2 that happens at fourteen of the fifteen
+ * pairs of neighbours, and with 3 at one, from byte 14 to byte 1.
+ * Form 0 is the standard: it ends with the ciphertext of slipgrease_encrypt, at every offset, with every step and any masks. Form
+ * 1 is that of the early modules: its block is the ciphertext xored with Mask(o+14d), so it is still covered.
  */
 
 /*
- * Encrypts one block under the published masks, by stored boxes.
+ * Encrypts one block under the published masks, with step 1 by stored boxes; those of another step are worked out first.
  * Reads schedule, 240 bytes, and input, 16 bytes. Writes output_out, 16 bytes.
- * Refusals: 2 SCHEDULE_LENGTH, 3 INPUT_LENGTH, 4 OUTPUT_LENGTH, 6 OFFSET_RANGE, 7 FORM_UNKNOWN.
+ * Refusals: 2 SCHEDULE_LENGTH, 3 INPUT_LENGTH, 4 OUTPUT_LENGTH, 6 OFFSET_RANGE, 15 STEP_WRONG, 7 FORM_UNKNOWN.
  */
 uint8_t slipgrease_encrypt_published(
     const uint8_t *schedule, size_t schedule_len,
     const uint8_t *input, size_t input_len,
     uint8_t *output_out, size_t output_len,
-    uint8_t offset, uint8_t form);
+    uint8_t offset, uint8_t step, uint8_t form);
 
 /*
- * Encrypts up to SLIPGREASE_BLOCKS_MAX blocks under the published masks, by stored boxes: in turn, as slipgrease_encrypt_published
+ * Encrypts up to SLIPGREASE_BLOCKS_MAX blocks under the published masks, with one step: in turn, as slipgrease_encrypt_published
  * would each of them. Block k is at byte 16 * k of input and output, and its offset is byte k of offsets. One offset that is wrong
  * refuses them all. With no blocks it is done, and nothing is written.
  * Reads schedule, 240 bytes, input, 16 bytes a block, and offsets, 1 byte a block. Writes output_out, 16 bytes a block.
- * Refusals: 2 SCHEDULE_LENGTH, 3 INPUT_LENGTH, 4 OUTPUT_LENGTH, 14 OFFSETS_LENGTH, 6 OFFSET_RANGE, 7 FORM_UNKNOWN.
+ * Refusals: 2 SCHEDULE_LENGTH, 3 INPUT_LENGTH, 4 OUTPUT_LENGTH, 14 OFFSETS_LENGTH, 6 OFFSET_RANGE, 15 STEP_WRONG, 7 FORM_UNKNOWN.
  */
 uint8_t slipgrease_encrypt_blocks(
     const uint8_t *schedule, size_t schedule_len,
     const uint8_t *input, size_t input_len,
     uint8_t *output_out, size_t output_len,
     const uint8_t *offsets, size_t offsets_len,
-    uint8_t form);
+    uint8_t step, uint8_t form);
 
 /*
  * Encrypts one block under any sixteen masks, fit or not; their boxes are worked out first.
  * Reads schedule, 240 bytes, input, 16 bytes, and masks, 16 bytes. Writes output_out, 16 bytes.
- * Refusals: 2 SCHEDULE_LENGTH, 3 INPUT_LENGTH, 4 OUTPUT_LENGTH, 5 MASKS_LENGTH, 6 OFFSET_RANGE, 7 FORM_UNKNOWN.
+ * Refusals: 2 SCHEDULE_LENGTH, 3 INPUT_LENGTH, 4 OUTPUT_LENGTH, 5 MASKS_LENGTH, 6 OFFSET_RANGE, 15 STEP_WRONG, 7 FORM_UNKNOWN.
  */
 uint8_t slipgrease_encrypt_masked(
     const uint8_t *schedule, size_t schedule_len,
     const uint8_t *input, size_t input_len,
     uint8_t *output_out, size_t output_len,
     const uint8_t *masks, size_t masks_len,
-    uint8_t offset, uint8_t form);
+    uint8_t offset, uint8_t step, uint8_t form);
 
 /*
  * Encrypts one block under any sixteen masks in form 0, and records the state at each of the 71 points that
  * slipgrease_record_plain has. Each is the plain state under the mask that the table there names. No other output block is
  * written.
  * Reads schedule, 240 bytes, input, 16 bytes, and masks, 16 bytes. Writes record_out, 1,136 bytes.
- * Refusals: 2 SCHEDULE_LENGTH, 3 INPUT_LENGTH, 5 MASKS_LENGTH, 6 OFFSET_RANGE, 8 RECORD_LENGTH.
+ * Refusals: 2 SCHEDULE_LENGTH, 3 INPUT_LENGTH, 5 MASKS_LENGTH, 6 OFFSET_RANGE, 15 STEP_WRONG, 8 RECORD_LENGTH.
  */
 uint8_t slipgrease_record_masked(
     const uint8_t *schedule, size_t schedule_len,
     const uint8_t *input, size_t input_len,
     const uint8_t *masks, size_t masks_len,
-    uint8_t offset,
+    uint8_t offset, uint8_t step,
     uint8_t *record_out, size_t record_len);
 
 /*
- * Reads the sixteen masks of a sheet, which is 4d 53 4b ("MSK"), the version 00 01 and the masks.
- * Reads sheet, 21 bytes. Writes masks_out, 16 bytes.
- * Refusals: 11 SHEET_LENGTH, 12 MARK_WRONG, 13 VERSION_UNKNOWN, 5 MASKS_LENGTH.
+ * Reads the sixteen masks and the step of a sheet, which is 4d 53 4b ("MSK"), the version and the masks. Version 00 01, 21 bytes,
+ * means step 1; in version 00 02, 22 bytes, the step comes last, and is 4 to 15. Answers reply * 256 + step; beside a refusal the
+ * step is 0. The first SHEET_LENGTH is for fewer than 5 bytes, the second for a length that is not the version's.
+ * Reads sheet, 21 or 22 bytes. Writes masks_out, 16 bytes.
+ * Refusals: 11 SHEET_LENGTH, 12 MARK_WRONG, 13 VERSION_UNKNOWN, 11 SHEET_LENGTH, 15 STEP_WRONG, 5 MASKS_LENGTH.
  */
-uint8_t slipgrease_read_sheet(
+uint16_t slipgrease_read_sheet(
     const uint8_t *sheet, size_t sheet_len,
     uint8_t *masks_out, size_t masks_len);
 
 /*
- * Writes the sheet of sixteen masks, fit or not.
- * Reads masks, 16 bytes. Writes sheet_out, 21 bytes.
- * Refusals: 11 SHEET_LENGTH, 5 MASKS_LENGTH.
+ * Writes the sheet of sixteen masks, fit or not, and their step: step 1 in version 1, 21 bytes, any other in version 2, 22 bytes.
+ * Reads masks, 16 bytes. Writes sheet_out, 21 or 22 bytes.
+ * Refusals: 15 STEP_WRONG, 11 SHEET_LENGTH, 5 MASKS_LENGTH.
  */
 uint8_t slipgrease_write_sheet(
     const uint8_t *masks, size_t masks_len,
+    uint8_t step,
     uint8_t *sheet_out, size_t sheet_len);
 
 /* ---- Beside the engines ---- */

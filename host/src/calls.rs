@@ -44,6 +44,7 @@ extern "C" {
         output: *mut u8,
         output_len: usize,
         offset: u8,
+        step: u8,
         form: u8,
     ) -> u8;
 
@@ -56,6 +57,7 @@ extern "C" {
         output_len: usize,
         offsets: *const u8,
         offsets_len: usize,
+        step: u8,
         form: u8,
     ) -> u8;
 
@@ -69,6 +71,7 @@ extern "C" {
         masks: *const u8,
         masks_len: usize,
         offset: u8,
+        step: u8,
         form: u8,
     ) -> u8;
 
@@ -80,12 +83,13 @@ extern "C" {
         masks: *const u8,
         masks_len: usize,
         offset: u8,
+        step: u8,
         states: *mut u8,
         states_len: usize,
     ) -> u8;
 
-    fn slipgrease_read_sheet(sheet: *const u8, sheet_len: usize, masks: *mut u8, masks_len: usize) -> u8;
-    fn slipgrease_write_sheet(masks: *const u8, masks_len: usize, sheet: *mut u8, sheet_len: usize) -> u8;
+    fn slipgrease_read_sheet(sheet: *const u8, sheet_len: usize, masks: *mut u8, masks_len: usize) -> u16;
+    fn slipgrease_write_sheet(masks: *const u8, masks_len: usize, step: u8, sheet: *mut u8, sheet_len: usize) -> u8;
     fn slipgrease_fitness(masks: *const u8, masks_len: usize) -> u16;
     fn slipgrease_multiply(a: u8, b: u8) -> u8;
     fn slipgrease_inverse(x: u8) -> u8;
@@ -117,7 +121,7 @@ pub fn record_plain(schedule: &[u8], input: &[u8], states: &mut [u8]) -> u8 {
     }
 }
 
-pub fn encrypt_published(schedule: &[u8], input: &[u8], output: &mut [u8], offset: u8, form: u8) -> u8 {
+pub fn encrypt_published(schedule: &[u8], input: &[u8], output: &mut [u8], offset: u8, step: u8, form: u8) -> u8 {
     unsafe {
         slipgrease_encrypt_published(
             schedule.as_ptr(),
@@ -127,12 +131,13 @@ pub fn encrypt_published(schedule: &[u8], input: &[u8], output: &mut [u8], offse
             output.as_mut_ptr(),
             output.len(),
             offset,
+            step,
             form,
         )
     }
 }
 
-pub fn encrypt_blocks(schedule: &[u8], input: &[u8], output: &mut [u8], offsets: &[u8], form: u8) -> u8 {
+pub fn encrypt_blocks(schedule: &[u8], input: &[u8], output: &mut [u8], offsets: &[u8], step: u8, form: u8) -> u8 {
     unsafe {
         slipgrease_encrypt_blocks(
             schedule.as_ptr(),
@@ -143,12 +148,13 @@ pub fn encrypt_blocks(schedule: &[u8], input: &[u8], output: &mut [u8], offsets:
             output.len(),
             offsets.as_ptr(),
             offsets.len(),
+            step,
             form,
         )
     }
 }
 
-pub fn encrypt_masked(schedule: &[u8], input: &[u8], output: &mut [u8], masks: &[u8], offset: u8, form: u8) -> u8 {
+pub fn encrypt_masked(schedule: &[u8], input: &[u8], output: &mut [u8], masks: &[u8], offset: u8, step: u8, form: u8) -> u8 {
     unsafe {
         slipgrease_encrypt_masked(
             schedule.as_ptr(),
@@ -160,12 +166,13 @@ pub fn encrypt_masked(schedule: &[u8], input: &[u8], output: &mut [u8], masks: &
             masks.as_ptr(),
             masks.len(),
             offset,
+            step,
             form,
         )
     }
 }
 
-pub fn record_masked(schedule: &[u8], input: &[u8], masks: &[u8], offset: u8, states: &mut [u8]) -> u8 {
+pub fn record_masked(schedule: &[u8], input: &[u8], masks: &[u8], offset: u8, step: u8, states: &mut [u8]) -> u8 {
     unsafe {
         slipgrease_record_masked(
             schedule.as_ptr(),
@@ -175,18 +182,19 @@ pub fn record_masked(schedule: &[u8], input: &[u8], masks: &[u8], offset: u8, st
             masks.as_ptr(),
             masks.len(),
             offset,
+            step,
             states.as_mut_ptr(),
             states.len(),
         )
     }
 }
 
-pub fn read_sheet(sheet: &[u8], masks: &mut [u8]) -> u8 {
+pub fn read_sheet(sheet: &[u8], masks: &mut [u8]) -> u16 {
     unsafe { slipgrease_read_sheet(sheet.as_ptr(), sheet.len(), masks.as_mut_ptr(), masks.len()) }
 }
 
-pub fn write_sheet(masks: &[u8], sheet: &mut [u8]) -> u8 {
-    unsafe { slipgrease_write_sheet(masks.as_ptr(), masks.len(), sheet.as_mut_ptr(), sheet.len()) }
+pub fn write_sheet(masks: &[u8], step: u8, sheet: &mut [u8]) -> u8 {
+    unsafe { slipgrease_write_sheet(masks.as_ptr(), masks.len(), step, sheet.as_mut_ptr(), sheet.len()) }
 }
 
 pub fn fitness(masks: &[u8]) -> u16 {

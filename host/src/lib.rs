@@ -1,14 +1,15 @@
 //! AES-256 block by block, plain and masked, by a library in which every call is proved to meet its promise.
 //!
 //! The library is `libslipgrease.a`, written in Rattle; this crate is its face for Rust. Whatever a call is lent, it ends, and
-//! gives the one answer that its promise names: wrong lengths, offsets and forms are refused, each with its own [`Refusal`], in a
-//! fixed order, and a refused call has written nothing.
+//! gives the one answer that its promise names: wrong lengths, offsets, steps and forms are refused, each with its own
+//! [`Refusal`], in a fixed order, and a refused call has written nothing.
 //!
 //! There are two ways to call it. The functions of this page take slices of any length and hand them on as they are. The types
-//! [`Schedule`], [`Masks`], [`Offset`] and [`Form`] hold only what the library takes, so that their calls cannot be refused:
+//! [`Schedule`], [`Masks`], [`Offset`], [`Step`] and [`Form`] hold only what the library takes, so that their calls cannot be
+//! refused:
 //!
 //! ```
-//! use slipgrease::{Form, Masks, Offset, Schedule};
+//! use slipgrease::{Form, Offset, Schedule, Step};
 //!
 //! // FIPS 197, C.3.
 //! let key = std::array::from_fn(|i| i as u8);
@@ -20,7 +21,7 @@
 //! assert_eq!(schedule.decrypt(&at_the_rack), block);
 //!
 //! for offset in Offset::all() {
-//!     let in_the_module = schedule.encrypt_published(&block, offset, Form::Standard);
+//!     let in_the_module = schedule.encrypt_published(&block, offset, Step::ONE, Form::Standard);
 //!     assert_eq!(in_the_module, at_the_rack);
 //! }
 //! ```
@@ -39,8 +40,8 @@ mod refusal;
 mod schedule;
 mod slices;
 
-pub use crate::masks::{Form, Masks, Offset};
-pub use crate::record::{Point, Record, Step};
+pub use crate::masks::{Form, Masks, Offset, Step};
+pub use crate::record::{Point, Record, Stage};
 pub use crate::refusal::{sort_reply, Fault, Refusal};
 pub use crate::schedule::{Block, Schedule};
 pub use crate::slices::{

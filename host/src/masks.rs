@@ -1,4 +1,4 @@
-//! The sixteen masks, the offset at which a run begins with them, and the form in which it ends.
+//! The sixteen masks, the offset at which a run begins with them, the step by which it goes on, and the form in which it ends.
 
 use crate::refusal::Refusal;
 use crate::slices;
@@ -25,25 +25,35 @@ impl Masks {
         Masks(bytes)
     }
 
-    /// The masks of a sheet.
+    /// The masks and the step of a sheet.
     ///
     /// ```
-    /// use slipgrease::{Masks, Refusal};
+    /// use slipgrease::{Masks, Refusal, Step};
     ///
-    /// let mut sheet = Masks::PUBLISHED.to_sheet();
-    /// assert_eq!(Masks::from_sheet(&sheet), Ok(Masks::PUBLISHED));
+    /// let mut sheet = Masks::PUBLISHED.to_sheet(Step::ONE);
+    /// assert_eq!(Masks::from_sheet(&sheet), Ok((Masks::PUBLISHED, Step::ONE)));
     /// sheet[0] = b'm';
     /// assert_eq!(Masks::from_sheet(&sheet), Err(Refusal::MarkWrong));
     /// ```
-    pub fn from_sheet(sheet: &[u8]) -> Result<Masks, Refusal> {
+    pub fn from_sheet(sheet: &[u8]) -> Result<(Masks, Step), Refusal> {
         let mut bytes = [0; 16];
-        slices::read_sheet(sheet, &mut bytes).map(|()| Masks(bytes))
+        slices::read_sheet(sheet, &mut bytes).map(|step| (Masks(bytes), Step(step)))
     }
 
-    /// The sheet of these masks: the mark "MSK", version 1 and the sixteen bytes.
-    pub fn to_sheet(&self) -> [u8; 21] {
-        let mut sheet = [0; 21];
-        slices::write_sheet(&self.0, &mut sheet).expect("both lengths are right");
+    /// The sheet of these masks and a step. For step 1 it is of version 1: the mark "MSK", the version and the masks, 21 bytes.
+    /// For any other it is of version 2, with the step behind them, 22 bytes.
+    ///
+    /// ```
+    /// use slipgrease::{Masks, Step};
+    ///
+    /// let step = Step::new(5).unwrap();
+    /// let sheet = Masks::PUBLISHED.to_sheet(step);
+    /// assert_eq!((sheet.len(), sheet[4], sheet[21]), (22, 2, 5));
+    /// assert_eq!(Masks::from_sheet(&sheet), Ok((Masks::PUBLISHED, step)));
+    /// ```
+    pub fn to_sheet(&self, step: Step) -> Vec<u8> {
+        let mut sheet = vec![0; if step == Step::ONE { 21 } else { 22 }];
+        slices::write_sheet(&self.0, step.number(), &mut sheet).expect("step and lengths are right");
         sheet
     }
 
@@ -98,6 +108,45 @@ impl Offset {
     }
 }
 
+/// How far the labels of the masks advance in a round: 1, or 4 to 15. Each series of modules has its own.
+///
+/// ```
+/// use slipgrease::{Refusal, Step};
+///
+/// assert_eq!(Step::new(1), Ok(Step::ONE));
+/// assert_eq!(Step::new(15).map(Step::number), Ok(15));
+/// for number in [0, 2, 3, 16] {
+///     assert_eq!(Step::new(number), Err(Refusal::StepWrong));
+/// }
+/// assert_eq!(Step::all().count(), 13);
+/// ```
+#[derive(Clone, Copy, Debug, PartialEq, Eq, PartialOrd, Ord, Hash)]
+pub struct Step(u8);
+
+impl Step {
+    /// The step of the first modules, for which the library has its boxes stored. For others it works them out, call by call.
+    pub const ONE: Step = Step(1);
+
+    /// A step, if the number is 1 or 4 to 15: 0 would keep one mask through a box, and 2 and 3 would put what a box gives and
+    /// what the next one called takes under the same mask.
+    pub fn new(number: u8) -> Result<Step, Refusal> {
+        match number {
+            1 | 4..=15 => Ok(Step(number)),
+            _ => Err(Refusal::StepWrong),
+        }
+    }
+
+    /// All thirteen, from 1 on.
+    pub fn all() -> impl Iterator<Item = Step> {
+        (1..16).filter_map(|number| Step::new(number).ok())
+    }
+
+    /// Its number.
+    pub fn number(self) -> u8 {
+        self.0
+    }
+}
+
 /// How a masked run ends.
 ///
 /// ```
@@ -110,7 +159,7 @@ impl Offset {
 pub enum Form {
     /// With the standard ciphertext.
     Standard = 0,
-    /// With the ciphertext still covered by Mask(o+14), as early modules followed the print.
+    /// With the ciphertext still covered by Mask(o+14d) at offset o and step d, as early modules followed the print.
     Printed = 1,
 }
 
@@ -128,17 +177,37 @@ impl TryFrom<u8> for Form {
 
 #[cfg(test)]
 mod tests {
-    use super::{Form, Masks, Offset};
+    use super::{Form, Masks, Offset, Step};
     use crate::Schedule;
 
-    /// A form 1 block is covered by Mask(o+14), so at sixteen offsets it shows each of the masks.
+    /// A form 1 block is covered by Mask(o+14d), so at sixteen offsets it shows each of the masks.
     #[test]
     fn the_published_masks_are_those_of_the_stored_boxes() {
         let schedule = Schedule::expand(&[7; 32]);
-        for offset in Offset::all() {
-            let stored = schedule.encrypt_published(&[9; 16], offset, Form::Printed);
-            let lent = schedule.encrypt_masked(&[9; 16], &Masks::PUBLISHED, offset, Form::Printed);
+        for (offset, step) in Offset::all().flat_map(|offset| Step::all().map(move |step| (offset, step))) {
+            let stored = schedule.encrypt_published(&[9; 16], offset, step, Form::Printed);
+            let lent = schedule.encrypt_masked(&[9; 16], &Masks::PUBLISHED, offset, step, Form::Printed);
             assert_eq!(stored, lent);
+        }
+    }
+
+    /// At offset 3 and step 5 the final label is 3 + 14 * 5, which is 9 modulo 16.
+    #[test]
+    fn the_printed_form_is_covered_by_the_final_label_s_mask() {
+        let (schedule, offset, step) = (Schedule::expand(&[7; 32]), Offset::new(3).unwrap(), Step::new(5).unwrap());
+        let printed = schedule.encrypt_published(&[9; 16], offset, step, Form::Printed);
+        let standard = schedule.encrypt(&[9; 16]);
+        for i in 0..16 {
+            assert_eq!(printed[i] ^ standard[i], Masks::PUBLISHED.as_bytes()[(9 + i) % 16]);
+        }
+    }
+
+    /// Every step goes through a sheet of either version.
+    #[test]
+    fn a_sheet_keeps_masks_and_step() {
+        for step in Step::all() {
+            let sheet = Masks::PUBLISHED.to_sheet(step);
+            assert_eq!(Masks::from_sheet(&sheet), Ok((Masks::PUBLISHED, step)));
         }
     }
 }

@@ -1,6 +1,6 @@
 //! The 71 recorded states of a run, and the points at which they are taken.
 
-use crate::masks::Offset;
+use crate::masks::{Offset, Step};
 use crate::schedule::Block;
 use std::fmt;
 
@@ -40,7 +40,7 @@ impl fmt::Debug for Record {
 
 /// What has just been done at a point. A plain run has the same points: it covers, compensates and uncovers nothing.
 #[derive(Clone, Copy, Debug, PartialEq, Eq, Hash)]
-pub enum Step {
+pub enum Stage {
     /// The block is there, under its first mask.
     Block,
     /// A round key was added.
@@ -60,12 +60,13 @@ pub enum Step {
 /// One of the 71 points of a run.
 ///
 /// ```
-/// use slipgrease::{Offset, Point};
+/// use slipgrease::{Offset, Point, Step};
 ///
 /// let points: Vec<Point> = Point::all().collect();
 /// assert_eq!(points.len(), 71);
 /// assert_eq!(points[4].to_string(), "MixColumns 0");
-/// assert_eq!(points[4].mask(Offset::new(15).unwrap()), "MixColumns(ShiftRows(Mask(0)))");
+/// assert_eq!(points[4].mask(Offset::new(15).unwrap(), Step::ONE), "MixColumns(ShiftRows(Mask(0)))");
+/// assert_eq!(points[4].mask(Offset::new(15).unwrap(), Step::new(5).unwrap()), "MixColumns(ShiftRows(Mask(4)))");
 /// assert_eq!(points[69].to_string(), "key 14");
 /// ```
 #[derive(Clone, Copy, Debug, PartialEq, Eq, Hash)]
@@ -88,26 +89,26 @@ impl Point {
     }
 
     /// What has just been done.
-    pub fn step(self) -> Step {
+    pub fn stage(self) -> Stage {
         match self.0 {
-            0 => Step::Block,
-            69 => Step::Key,
-            70 => Step::Uncovering,
-            n => [Step::Key, Step::Boxes, Step::ShiftRows, Step::MixColumns, Step::Compensation][(n - 1) % 5],
+            0 => Stage::Block,
+            69 => Stage::Key,
+            70 => Stage::Uncovering,
+            n => [Stage::Key, Stage::Boxes, Stage::ShiftRows, Stage::MixColumns, Stage::Compensation][(n - 1) % 5],
         }
     }
 
-    /// The mask that lies over the state here in a masked run at an offset, as the rules name it.
-    pub fn mask(self, offset: Offset) -> String {
-        let label = |ahead: usize| (usize::from(offset.number()) + ahead) % 16;
+    /// The mask that lies over the state here in a masked run at an offset and a step, as the rules name it.
+    pub fn mask(self, offset: Offset, step: Step) -> String {
+        let label = |rounds: usize| (usize::from(offset.number()) + usize::from(step.number()) * rounds) % 16;
         let (before, after) = (label(self.round()), label(self.round() + 1));
-        match self.step() {
-            Step::Key if self.0 == 69 => format!("ShiftRows(Mask({after}))"),
-            Step::Block | Step::Key => format!("Mask({before})"),
-            Step::Boxes | Step::Compensation => format!("Mask({after})"),
-            Step::ShiftRows => format!("ShiftRows(Mask({after}))"),
-            Step::MixColumns => format!("MixColumns(ShiftRows(Mask({after})))"),
-            Step::Uncovering => "none".to_string(),
+        match self.stage() {
+            Stage::Key if self.0 == 69 => format!("ShiftRows(Mask({after}))"),
+            Stage::Block | Stage::Key => format!("Mask({before})"),
+            Stage::Boxes | Stage::Compensation => format!("Mask({after})"),
+            Stage::ShiftRows => format!("ShiftRows(Mask({after}))"),
+            Stage::MixColumns => format!("MixColumns(ShiftRows(Mask({after})))"),
+            Stage::Uncovering => "none".to_string(),
         }
     }
 }
@@ -115,15 +116,15 @@ impl Point {
 impl fmt::Display for Point {
     fn fmt(&self, f: &mut fmt::Formatter) -> fmt::Result {
         let round = self.round();
-        let name = match self.step() {
-            Step::Block => "block".to_string(),
-            Step::Key if self.0 == 69 => "key 14".to_string(),
-            Step::Key => format!("key {round}"),
-            Step::Boxes => format!("boxes {round}"),
-            Step::ShiftRows => format!("ShiftRows {round}"),
-            Step::MixColumns => format!("MixColumns {round}"),
-            Step::Compensation => format!("compensation {round}"),
-            Step::Uncovering => "ciphertext".to_string(),
+        let name = match self.stage() {
+            Stage::Block => "block".to_string(),
+            Stage::Key if self.0 == 69 => "key 14".to_string(),
+            Stage::Key => format!("key {round}"),
+            Stage::Boxes => format!("boxes {round}"),
+            Stage::ShiftRows => format!("ShiftRows {round}"),
+            Stage::MixColumns => format!("MixColumns {round}"),
+            Stage::Compensation => format!("compensation {round}"),
+            Stage::Uncovering => "ciphertext".to_string(),
         };
         f.pad(&name)
     }

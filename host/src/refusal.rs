@@ -37,18 +37,20 @@ pub enum Refusal {
     NoLogarithm = 9,
     /// The power is above 254.
     PowerRange = 10,
-    /// The sheet is not 21 bytes long.
+    /// The sheet is not 21 bytes long; in version 2, not 22.
     SheetLength = 11,
     /// The sheet does not begin with its mark.
     MarkWrong = 12,
-    /// The sheet's version is not 1.
+    /// The sheet's version is neither 1 nor 2.
     VersionUnknown = 13,
     /// There is not one offset for each block.
     OffsetsLength = 14,
+    /// The step is 0, 2, 3 or above 15, or 1 in a sheet of version 2.
+    StepWrong = 15,
 }
 
 /// The name and the meaning of each, in the order of their numbers.
-const REFUSALS: [(Refusal, &str, &str); 14] = [
+const REFUSALS: [(Refusal, &str, &str); 15] = [
     (Refusal::KeyLength, "KEY_LENGTH", "the key is not 32 bytes long"),
     (Refusal::ScheduleLength, "SCHEDULE_LENGTH", "the schedule is not 240 bytes long"),
     (Refusal::InputLength, "INPUT_LENGTH", "the input is not 16 bytes long; of many blocks, not 16 for each of 256 at most"),
@@ -59,10 +61,11 @@ const REFUSALS: [(Refusal, &str, &str); 14] = [
     (Refusal::RecordLength, "RECORD_LENGTH", "the record is not 1,136 bytes long"),
     (Refusal::NoLogarithm, "NO_LOGARITHM", "00 has no logarithm"),
     (Refusal::PowerRange, "POWER_RANGE", "the power is above 254"),
-    (Refusal::SheetLength, "SHEET_LENGTH", "the sheet is not 21 bytes long"),
+    (Refusal::SheetLength, "SHEET_LENGTH", "the sheet is not 21 bytes long; in version 2, not 22"),
     (Refusal::MarkWrong, "MARK_WRONG", "the sheet does not begin with its mark, 4d 53 4b"),
-    (Refusal::VersionUnknown, "VERSION_UNKNOWN", "the sheet's version is not 1"),
+    (Refusal::VersionUnknown, "VERSION_UNKNOWN", "the sheet's version is neither 1 nor 2"),
     (Refusal::OffsetsLength, "OFFSETS_LENGTH", "there is not one offset for each block"),
+    (Refusal::StepWrong, "STEP_WRONG", "the step is 0, 2, 3 or above 15, or 1 in a sheet of version 2"),
 ];
 
 impl Refusal {
@@ -77,7 +80,7 @@ impl Refusal {
         REFUSALS.iter().map(|row| row.0).find(|refusal| refusal.number() == number)
     }
 
-    /// The reply number, 1 to 14.
+    /// The reply number, 1 to 15.
     pub fn number(self) -> u8 {
         self as u8
     }
@@ -135,7 +138,7 @@ pub enum Fault {
 /// assert_eq!(sort_reply(0), None);
 /// assert_eq!(sort_reply(8), Some(Fault::Caller));
 /// assert_eq!(sort_reply(9), Some(Fault::Data));
-/// assert_eq!(sort_reply(14), Some(Fault::Caller));
+/// assert_eq!(sort_reply(15), Some(Fault::Caller));
 /// ```
 pub fn sort_reply(number: u8) -> Option<Fault> {
     match calls::sort_reply(number) {

@@ -1,6 +1,6 @@
 //! A key schedule, and the runs with it that cannot be refused.
 
-use crate::masks::{Form, Masks, Offset};
+use crate::masks::{Form, Masks, Offset, Step};
 use crate::record::Record;
 use crate::refusal::Refusal;
 use crate::slices;
@@ -9,8 +9,8 @@ use std::fmt;
 /// Sixteen bytes in, sixteen bytes out.
 pub type Block = [u8; 16];
 
-/// The lengths are in the types, so no call below can be refused.
-const FITS: &str = "every length is right by its type";
+/// Lengths and numbers are in the types, so no call below can be refused.
+const FITS: &str = "every length and number is right by its type";
 
 /// The fifteen round keys of AES-256, 240 bytes. Any 240 bytes are taken.
 ///
@@ -64,57 +64,58 @@ impl Schedule {
     }
 
     /// The block that a masked run with the published masks ends with.
-    pub fn encrypt_published(&self, block: &Block, offset: Offset, form: Form) -> Block {
+    pub fn encrypt_published(&self, block: &Block, offset: Offset, step: Step, form: Form) -> Block {
         let mut output = [0; 16];
-        slices::encrypt_published(&self.0, block, &mut output, offset.number(), form as u8).expect(FITS);
+        slices::encrypt_published(&self.0, block, &mut output, offset.number(), step.number(), form as u8).expect(FITS);
         output
     }
 
-    /// The same of many blocks, each at an offset of its own: so many calls as there are 256 blocks.
+    /// The same of many blocks, each at an offset of its own and all with one step: so many calls as there are 256 blocks.
     ///
     /// ```
-    /// use slipgrease::{Form, Offset, Schedule};
+    /// use slipgrease::{Form, Offset, Schedule, Step};
     ///
     /// let schedule = Schedule::expand(&[1; 32]);
     /// let blocks: Vec<_> = Offset::all().map(|offset| ([offset.number(); 16], offset)).collect();
-    /// let made = schedule.encrypt_blocks(&blocks, Form::Standard);
+    /// let made = schedule.encrypt_blocks(&blocks, Step::ONE, Form::Standard);
     /// assert_eq!(made[7], schedule.encrypt(&[7; 16]));
     /// ```
-    pub fn encrypt_blocks(&self, blocks: &[(Block, Offset)], form: Form) -> Vec<Block> {
-        blocks.chunks(256).flat_map(|blocks| self.encrypt_at_once(blocks, form)).collect()
+    pub fn encrypt_blocks(&self, blocks: &[(Block, Offset)], step: Step, form: Form) -> Vec<Block> {
+        blocks.chunks(256).flat_map(|blocks| self.encrypt_at_once(blocks, step, form)).collect()
     }
 
     /// Up to 256 blocks.
-    fn encrypt_at_once(&self, blocks: &[(Block, Offset)], form: Form) -> Vec<Block> {
+    fn encrypt_at_once(&self, blocks: &[(Block, Offset)], step: Step, form: Form) -> Vec<Block> {
         let input: Vec<u8> = blocks.iter().flat_map(|(block, _)| *block).collect();
         let offsets: Vec<u8> = blocks.iter().map(|(_, offset)| offset.number()).collect();
         let mut output = vec![0; input.len()];
-        slices::encrypt_blocks(&self.0, &input, &mut output, &offsets, form as u8).expect(FITS);
+        slices::encrypt_blocks(&self.0, &input, &mut output, &offsets, step.number(), form as u8).expect(FITS);
         output.chunks_exact(16).map(|block| block.try_into().expect(FITS)).collect()
     }
 
     /// The block that a masked run with any sixteen masks ends with.
-    pub fn encrypt_masked(&self, block: &Block, masks: &Masks, offset: Offset, form: Form) -> Block {
+    pub fn encrypt_masked(&self, block: &Block, masks: &Masks, offset: Offset, step: Step, form: Form) -> Block {
         let mut output = [0; 16];
-        slices::encrypt_masked(&self.0, block, &mut output, masks.as_bytes(), offset.number(), form as u8).expect(FITS);
+        slices::encrypt_masked(&self.0, block, &mut output, masks.as_bytes(), offset.number(), step.number(), form as u8)
+            .expect(FITS);
         output
     }
 
     /// The 71 states of a masked run in the standard form.
     ///
     /// ```
-    /// use slipgrease::{Masks, Offset, Schedule};
+    /// use slipgrease::{Masks, Offset, Schedule, Step};
     ///
     /// let schedule = Schedule::expand(&[1; 32]);
     /// let plain = schedule.record(&[2; 16]);
-    /// let covered = schedule.record_masked(&[2; 16], &Masks::PUBLISHED, Offset::new(3).unwrap());
+    /// let covered = schedule.record_masked(&[2; 16], &Masks::PUBLISHED, Offset::new(3).unwrap(), Step::new(5).unwrap());
     /// assert_ne!(covered.state(0), plain.state(0));
     /// assert_eq!(covered.state(70), plain.state(70));
     /// assert_eq!(covered.state(70), &schedule.encrypt(&[2; 16]));
     /// ```
-    pub fn record_masked(&self, block: &Block, masks: &Masks, offset: Offset) -> Record {
+    pub fn record_masked(&self, block: &Block, masks: &Masks, offset: Offset, step: Step) -> Record {
         let mut states = [0; 1136];
-        slices::record_masked(&self.0, block, masks.as_bytes(), offset.number(), &mut states).expect(FITS);
+        slices::record_masked(&self.0, block, masks.as_bytes(), offset.number(), step.number(), &mut states).expect(FITS);
         Record::new(states)
     }
 }
@@ -137,7 +138,7 @@ impl fmt::Debug for Schedule {
 #[cfg(test)]
 mod tests {
     use super::{Block, Schedule};
-    use crate::masks::{Form, Offset};
+    use crate::masks::{Form, Offset, Step};
 
     /// Around the 256 blocks of a call, each block is what a call of its own gives.
     #[test]
@@ -147,9 +148,10 @@ mod tests {
             let block = |i: usize| -> Block { std::array::from_fn(|k| (i * 31 + k) as u8) };
             let offset = |i: usize| Offset::new((i * 7 % 16) as u8).unwrap();
             let blocks: Vec<(Block, Offset)> = (0..count).map(|i| (block(i), offset(i))).collect();
-            for form in [Form::Standard, Form::Printed] {
-                let single = blocks.iter().map(|(block, offset)| schedule.encrypt_published(block, *offset, form));
-                assert_eq!(schedule.encrypt_blocks(&blocks, form), single.collect::<Vec<Block>>());
+            for (step, form) in [(1, Form::Standard), (1, Form::Printed), (4, Form::Printed)] {
+                let step = Step::new(step).unwrap();
+                let single = blocks.iter().map(|(block, offset)| schedule.encrypt_published(block, *offset, step, form));
+                assert_eq!(schedule.encrypt_blocks(&blocks, step, form), single.collect::<Vec<Block>>());
             }
         }
     }

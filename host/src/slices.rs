@@ -62,51 +62,70 @@ pub fn record_plain(schedule: &[u8], input: &[u8], states: &mut [u8]) -> Result<
     Refusal::check(calls::record_plain(schedule, input, states))
 }
 
-/// Writes the block that a masked run with the published masks ends with: in form 0 what [`encrypt`] writes, at every offset.
+/// Writes the block that a masked run with the published masks ends with: in form 0 what [`encrypt`] writes, at every offset and
+/// with every step, which is how far the labels of the masks advance in a round.
 ///
-/// Refused, in this order: schedule not 240 bytes, input not 16, output not 16, offset above 15, form not 0 or 1.
+/// Refused, in this order: schedule not 240 bytes, input not 16, output not 16, offset above 15, step 0, 2, 3 or above 15, form
+/// not 0 or 1.
 ///
 /// ```
 /// let (mut plain, mut masked) = ([0; 16], [0; 16]);
 /// slipgrease::encrypt(&[3; 240], &[5; 16], &mut plain)?;
-/// slipgrease::encrypt_published(&[3; 240], &[5; 16], &mut masked, 11, 0)?;
+/// slipgrease::encrypt_published(&[3; 240], &[5; 16], &mut masked, 11, 1, 0)?;
+/// assert_eq!(masked, plain);
+/// slipgrease::encrypt_published(&[3; 240], &[5; 16], &mut masked, 11, 5, 0)?;
 /// assert_eq!(masked, plain);
 /// # Ok::<(), slipgrease::Refusal>(())
 /// ```
-pub fn encrypt_published(schedule: &[u8], input: &[u8], output: &mut [u8], offset: u8, form: u8) -> Result<(), Refusal> {
-    Refusal::check(calls::encrypt_published(schedule, input, output, offset, form))
+pub fn encrypt_published(
+    schedule: &[u8],
+    input: &[u8],
+    output: &mut [u8],
+    offset: u8,
+    step: u8,
+    form: u8,
+) -> Result<(), Refusal> {
+    Refusal::check(calls::encrypt_published(schedule, input, output, offset, step, form))
 }
 
-/// Writes for each of up to 256 blocks what [`encrypt_published`] would, at an offset of its own.
+/// Writes for each of up to 256 blocks what [`encrypt_published`] would, at an offset of its own and one step for all.
 ///
 /// Refused, in this order: schedule not 240 bytes, input not 16 for each of 256 blocks at most, output not as long as the input, not
-/// one offset for each block, any offset above 15, form not 0 or 1. A call without blocks is done.
+/// one offset for each block, any offset above 15, step 0, 2, 3 or above 15, form not 0 or 1. A call without blocks is done.
 ///
 /// ```
 /// use slipgrease::Refusal;
 ///
 /// let (mut plain, mut masked) = ([0; 16], [0; 48]);
 /// slipgrease::encrypt(&[3; 240], &[5; 16], &mut plain)?;
-/// slipgrease::encrypt_blocks(&[3; 240], &[5; 48], &mut masked, &[11, 0, 15], 0)?;
+/// slipgrease::encrypt_blocks(&[3; 240], &[5; 48], &mut masked, &[11, 0, 15], 1, 0)?;
 /// assert_eq!(masked[..], plain.repeat(3));
 ///
 /// let mut untouched = [0x55; 48];
-/// let refused = slipgrease::encrypt_blocks(&[3; 240], &[5; 48], &mut untouched, &[11, 0, 16], 0);
+/// let refused = slipgrease::encrypt_blocks(&[3; 240], &[5; 48], &mut untouched, &[11, 0, 16], 1, 0);
 /// assert_eq!((refused, untouched), (Err(Refusal::OffsetRange), [0x55; 48]));
 /// # Ok::<(), slipgrease::Refusal>(())
 /// ```
-pub fn encrypt_blocks(schedule: &[u8], input: &[u8], output: &mut [u8], offsets: &[u8], form: u8) -> Result<(), Refusal> {
-    Refusal::check(calls::encrypt_blocks(schedule, input, output, offsets, form))
+pub fn encrypt_blocks(
+    schedule: &[u8],
+    input: &[u8],
+    output: &mut [u8],
+    offsets: &[u8],
+    step: u8,
+    form: u8,
+) -> Result<(), Refusal> {
+    Refusal::check(calls::encrypt_blocks(schedule, input, output, offsets, step, form))
 }
 
 /// What [`encrypt_published`] writes, with any sixteen masks.
 ///
-/// Refused, in this order: schedule not 240 bytes, input not 16, output not 16, masks not 16, offset above 15, form not 0 or 1.
+/// Refused, in this order: schedule not 240 bytes, input not 16, output not 16, masks not 16, offset above 15, step 0, 2, 3 or
+/// above 15, form not 0 or 1.
 ///
 /// ```
 /// let (mut plain, mut printed) = ([0; 16], [0; 16]);
 /// slipgrease::encrypt(&[3; 240], &[5; 16], &mut plain)?;
-/// slipgrease::encrypt_masked(&[3; 240], &[5; 16], &mut printed, &[0xc4; 16], 11, 1)?;
+/// slipgrease::encrypt_masked(&[3; 240], &[5; 16], &mut printed, &[0xc4; 16], 11, 5, 1)?;
 /// assert_eq!(printed, plain.map(|byte| byte ^ 0xc4));
 /// # Ok::<(), slipgrease::Refusal>(())
 /// ```
@@ -116,52 +135,65 @@ pub fn encrypt_masked(
     output: &mut [u8],
     masks: &[u8],
     offset: u8,
+    step: u8,
     form: u8,
 ) -> Result<(), Refusal> {
-    Refusal::check(calls::encrypt_masked(schedule, input, output, masks, offset, form))
+    Refusal::check(calls::encrypt_masked(schedule, input, output, masks, offset, step, form))
 }
 
 /// Writes the 71 states of a masked run in form 0, 1,136 bytes.
 ///
-/// Refused, in this order: schedule not 240 bytes, input not 16, masks not 16, offset above 15, record not 1,136.
+/// Refused, in this order: schedule not 240 bytes, input not 16, masks not 16, offset above 15, step 0, 2, 3 or above 15, record
+/// not 1,136.
 ///
 /// ```
 /// let (mut plain, mut covered) = ([0; 1136], [0; 1136]);
 /// slipgrease::record_plain(&[3; 240], &[5; 16], &mut plain)?;
-/// slipgrease::record_masked(&[3; 240], &[5; 16], &[0; 16], 11, &mut covered)?;
+/// slipgrease::record_masked(&[3; 240], &[5; 16], &[0; 16], 11, 5, &mut covered)?;
 /// assert_eq!(covered, plain, "sixteen masks 00 cover nothing");
 /// # Ok::<(), slipgrease::Refusal>(())
 /// ```
-pub fn record_masked(schedule: &[u8], input: &[u8], masks: &[u8], offset: u8, states: &mut [u8]) -> Result<(), Refusal> {
-    Refusal::check(calls::record_masked(schedule, input, masks, offset, states))
+pub fn record_masked(
+    schedule: &[u8],
+    input: &[u8],
+    masks: &[u8],
+    offset: u8,
+    step: u8,
+    states: &mut [u8],
+) -> Result<(), Refusal> {
+    Refusal::check(calls::record_masked(schedule, input, masks, offset, step, states))
 }
 
-/// Writes the sixteen masks of a sheet.
+/// Writes the sixteen masks of a sheet and gives its step: in version 2 the last byte, and 1 for version 1, which has none.
 ///
-/// Refused, in this order: sheet not 21 bytes, mark wrong, version not 1, masks not 16 bytes.
+/// Refused, in this order: sheet shorter than 5 bytes, mark wrong, version not 1 or 2, sheet not 21 bytes in version 1 or 22 in
+/// version 2, step of version 2 not 4 to 15, masks not 16 bytes.
 ///
 /// ```
 /// let mut masks = [0; 16];
-/// slipgrease::read_sheet(b"MSK\x00\x01sixteen bytes...", &mut masks)?;
+/// assert_eq!(slipgrease::read_sheet(b"MSK\x00\x01sixteen bytes...", &mut masks), Ok(1));
 /// assert_eq!(&masks, b"sixteen bytes...");
-/// # Ok::<(), slipgrease::Refusal>(())
+/// assert_eq!(slipgrease::read_sheet(b"MSK\x00\x02sixteen bytes!!!\x05", &mut masks), Ok(5));
+/// assert_eq!(&masks, b"sixteen bytes!!!");
 /// ```
-pub fn read_sheet(sheet: &[u8], masks: &mut [u8]) -> Result<(), Refusal> {
-    Refusal::check(calls::read_sheet(sheet, masks))
+pub fn read_sheet(sheet: &[u8], masks: &mut [u8]) -> Result<u8, Refusal> {
+    valued(calls::read_sheet(sheet, masks))
 }
 
-/// Writes the sheet of sixteen masks, 21 bytes.
+/// Writes the sheet of sixteen masks and a step: version 1, 21 bytes, for step 1, and version 2, 22 bytes, for any other.
 ///
-/// Refused, in this order: sheet not 21 bytes, masks not 16.
+/// Refused, in this order: step 0, 2, 3 or above 15, sheet not that long, masks not 16 bytes.
 ///
 /// ```
-/// let mut sheet = [0; 21];
-/// slipgrease::write_sheet(b"sixteen bytes...", &mut sheet)?;
-/// assert_eq!(&sheet, b"MSK\x00\x01sixteen bytes...");
+/// let (mut of_step_1, mut of_step_5) = ([0; 21], [0; 22]);
+/// slipgrease::write_sheet(b"sixteen bytes...", 1, &mut of_step_1)?;
+/// slipgrease::write_sheet(b"sixteen bytes...", 5, &mut of_step_5)?;
+/// assert_eq!(&of_step_1, b"MSK\x00\x01sixteen bytes...");
+/// assert_eq!(&of_step_5, b"MSK\x00\x02sixteen bytes...\x05");
 /// # Ok::<(), slipgrease::Refusal>(())
 /// ```
-pub fn write_sheet(masks: &[u8], sheet: &mut [u8]) -> Result<(), Refusal> {
-    Refusal::check(calls::write_sheet(masks, sheet))
+pub fn write_sheet(masks: &[u8], step: u8, sheet: &mut [u8]) -> Result<(), Refusal> {
+    Refusal::check(calls::write_sheet(masks, step, sheet))
 }
 
 /// Whether a mask table is fit: any three of the eight bit positions show each of their eight patterns in exactly two of the

@@ -51,8 +51,8 @@ static void block(const char *call, const uint8_t *given, const char *expected)
     }
 }
 
-/* FIPS 197, C.3, and the published masks. At offset o byte i of the block is covered by M(o + i), of form 1 by M(o + 14 + i); o is
-   5 where nothing else is said. */
+/* FIPS 197, C.3, and the published masks. At offset o byte i of the block is covered by M(o + i), of form 1 with step d by
+   M(o + 14d + i); o is 5 and d is 1 where nothing else is said. */
 static const char plaintext[] = "00112233445566778899aabbccddeeff";
 static const char ciphertext[] = "8ea2b7ca516745bfeafc49904b496089";
 static const char covered[] = "5c7448a6def6cab1416955bbc3ebd7ac";
@@ -63,7 +63,16 @@ static const uint8_t masks[SLIPGREASE_MASKS_BYTES] = {
 static const uint8_t rising[SLIPGREASE_MASKS_BYTES] = {0, 1, 2, 3, 4, 5, 6, 7, 8, 9, 10, 11, 12, 13, 14, 15};
 
 static uint8_t key[SLIPGREASE_KEY_BYTES], w[SLIPGREASE_SCHEDULE_BYTES], in[SLIPGREASE_BLOCK_BYTES], out[SLIPGREASE_BLOCK_BYTES];
-static uint8_t record[SLIPGREASE_RECORD_BYTES], sheet[SLIPGREASE_SHEET_BYTES], table[SLIPGREASE_MASKS_BYTES];
+static uint8_t record[SLIPGREASE_RECORD_BYTES], table[SLIPGREASE_MASKS_BYTES];
+
+/* Sixteen bytes under Mask(label), which uncovered should have these hex digits. */
+static void under(const char *call, const uint8_t *given, size_t label, const char *expected)
+{
+    uint8_t bare[16];
+    for (size_t i = 0; i < 16; i++)
+        bare[i] = given[i] ^ masks[(label + i) % 16];
+    block(call, bare, expected);
+}
 
 static void rack(void)
 {
@@ -107,72 +116,131 @@ static void many(void)
     uint8_t two[2 * SLIPGREASE_BLOCK_BYTES], made[2 * SLIPGREASE_BLOCK_BYTES];
     memcpy(two, in, sizeof in);
     memcpy(two + sizeof in, in, sizeof in);
-    CALL(encrypt_blocks, SLIPGREASE_REPLY_DONE, LENT(w), LENT(two), LENT(made), offsets, 2, 1);
+    CALL(encrypt_blocks, SLIPGREASE_REPLY_DONE, LENT(w), LENT(two), LENT(made), offsets, 2, 1, 1);
     block("encrypt_blocks", made, form_1);
     block("encrypt_blocks", made + sizeof in, form_1_at_7);
-    CALL(encrypt_blocks, SLIPGREASE_REPLY_DONE, LENT(w), NONE, NONE, NONE, 0);
-    CALL(encrypt_blocks, SLIPGREASE_REPLY_FORM_UNKNOWN, LENT(w), NONE, NONE, NONE, 2);
-    CALL(encrypt_blocks, SLIPGREASE_REPLY_SCHEDULE_LENGTH, NONE, NONE, NONE, NONE, 0);
-    CALL(encrypt_blocks, SLIPGREASE_REPLY_INPUT_LENGTH, LENT(w), two, 17, LENT(made), offsets, 2, 0);
-    CALL(encrypt_blocks, SLIPGREASE_REPLY_OUTPUT_LENGTH, LENT(w), NONE, LENT(made), offsets, 2, 0);
-    CALL(encrypt_blocks, SLIPGREASE_REPLY_OUTPUT_LENGTH, LENT(w), LENT(two), NONE, offsets, 2, 0);
-    CALL(encrypt_blocks, SLIPGREASE_REPLY_OFFSETS_LENGTH, LENT(w), LENT(two), LENT(made), NONE, 0);
-    CALL(encrypt_blocks, SLIPGREASE_REPLY_OFFSETS_LENGTH, LENT(w), LENT(two), LENT(made), LENT(offsets), 0);
-    CALL(encrypt_blocks, SLIPGREASE_REPLY_OFFSET_RANGE, LENT(w), LENT(two), LENT(made), offsets + 1, 2, 0);
+    CALL(encrypt_blocks, SLIPGREASE_REPLY_DONE, LENT(w), NONE, NONE, NONE, 1, 0);
+    CALL(encrypt_blocks, SLIPGREASE_REPLY_FORM_UNKNOWN, LENT(w), NONE, NONE, NONE, 1, 2);
+    CALL(encrypt_blocks, SLIPGREASE_REPLY_SCHEDULE_LENGTH, NONE, NONE, NONE, NONE, 1, 0);
+    CALL(encrypt_blocks, SLIPGREASE_REPLY_INPUT_LENGTH, LENT(w), two, 17, LENT(made), offsets, 2, 1, 0);
+    CALL(encrypt_blocks, SLIPGREASE_REPLY_OUTPUT_LENGTH, LENT(w), NONE, LENT(made), offsets, 2, 1, 0);
+    CALL(encrypt_blocks, SLIPGREASE_REPLY_OUTPUT_LENGTH, LENT(w), LENT(two), NONE, offsets, 2, 1, 0);
+    CALL(encrypt_blocks, SLIPGREASE_REPLY_OFFSETS_LENGTH, LENT(w), LENT(two), LENT(made), NONE, 1, 0);
+    CALL(encrypt_blocks, SLIPGREASE_REPLY_OFFSETS_LENGTH, LENT(w), LENT(two), LENT(made), LENT(offsets), 1, 0);
+    CALL(encrypt_blocks, SLIPGREASE_REPLY_OFFSET_RANGE, LENT(w), LENT(two), LENT(made), offsets + 1, 2, 2, 0);
+    CALL(encrypt_blocks, SLIPGREASE_REPLY_STEP_WRONG, LENT(w), LENT(two), LENT(made), offsets, 2, 2, 2);
     block("encrypt_blocks", made, form_1);
 }
 
 static void module(void)
 {
-    CALL(encrypt_published, SLIPGREASE_REPLY_DONE, LENT(w), LENT(in), LENT(out), 5, 0);
+    CALL(encrypt_published, SLIPGREASE_REPLY_DONE, LENT(w), LENT(in), LENT(out), 5, 1, 0);
     block("encrypt_published", out, ciphertext);
-    CALL(encrypt_published, SLIPGREASE_REPLY_DONE, LENT(w), LENT(in), LENT(out), 5, 1);
+    CALL(encrypt_published, SLIPGREASE_REPLY_DONE, LENT(w), LENT(in), LENT(out), 5, 1, 1);
     block("encrypt_published", out, form_1);
-    CALL(encrypt_published, SLIPGREASE_REPLY_SCHEDULE_LENGTH, NONE, LENT(in), LENT(out), 5, 0);
-    CALL(encrypt_published, SLIPGREASE_REPLY_INPUT_LENGTH, LENT(w), NONE, LENT(out), 5, 0);
-    CALL(encrypt_published, SLIPGREASE_REPLY_OUTPUT_LENGTH, LENT(w), LENT(in), NONE, 5, 0);
-    CALL(encrypt_published, SLIPGREASE_REPLY_OFFSET_RANGE, LENT(w), LENT(in), LENT(out), 16, 0);
-    CALL(encrypt_published, SLIPGREASE_REPLY_FORM_UNKNOWN, LENT(w), LENT(in), LENT(out), 5, 2);
+    CALL(encrypt_published, SLIPGREASE_REPLY_SCHEDULE_LENGTH, NONE, LENT(in), LENT(out), 5, 1, 0);
+    CALL(encrypt_published, SLIPGREASE_REPLY_INPUT_LENGTH, LENT(w), NONE, LENT(out), 5, 1, 0);
+    CALL(encrypt_published, SLIPGREASE_REPLY_OUTPUT_LENGTH, LENT(w), LENT(in), NONE, 5, 1, 0);
+    CALL(encrypt_published, SLIPGREASE_REPLY_OFFSET_RANGE, LENT(w), LENT(in), LENT(out), 16, 2, 0);
+    CALL(encrypt_published, SLIPGREASE_REPLY_STEP_WRONG, LENT(w), LENT(in), LENT(out), 5, 2, 2);
+    CALL(encrypt_published, SLIPGREASE_REPLY_FORM_UNKNOWN, LENT(w), LENT(in), LENT(out), 5, 1, 2);
 
     many();
 
-    CALL(encrypt_masked, SLIPGREASE_REPLY_DONE, LENT(w), LENT(in), LENT(out), LENT(masks), 5, 0);
+    CALL(encrypt_masked, SLIPGREASE_REPLY_DONE, LENT(w), LENT(in), LENT(out), LENT(masks), 5, 1, 0);
     block("encrypt_masked", out, ciphertext);
-    CALL(encrypt_masked, SLIPGREASE_REPLY_DONE, LENT(w), LENT(in), LENT(out), LENT(masks), 5, 1);
+    CALL(encrypt_masked, SLIPGREASE_REPLY_DONE, LENT(w), LENT(in), LENT(out), LENT(masks), 5, 1, 1);
     block("encrypt_masked", out, form_1);
-    CALL(encrypt_masked, SLIPGREASE_REPLY_SCHEDULE_LENGTH, NONE, LENT(in), LENT(out), LENT(masks), 5, 0);
-    CALL(encrypt_masked, SLIPGREASE_REPLY_INPUT_LENGTH, LENT(w), NONE, LENT(out), LENT(masks), 5, 0);
-    CALL(encrypt_masked, SLIPGREASE_REPLY_OUTPUT_LENGTH, LENT(w), LENT(in), NONE, LENT(masks), 5, 0);
-    CALL(encrypt_masked, SLIPGREASE_REPLY_MASKS_LENGTH, LENT(w), LENT(in), LENT(out), NONE, 5, 0);
-    CALL(encrypt_masked, SLIPGREASE_REPLY_OFFSET_RANGE, LENT(w), LENT(in), LENT(out), LENT(masks), 16, 0);
-    CALL(encrypt_masked, SLIPGREASE_REPLY_FORM_UNKNOWN, LENT(w), LENT(in), LENT(out), LENT(masks), 5, 2);
+    CALL(encrypt_masked, SLIPGREASE_REPLY_SCHEDULE_LENGTH, NONE, LENT(in), LENT(out), LENT(masks), 5, 1, 0);
+    CALL(encrypt_masked, SLIPGREASE_REPLY_INPUT_LENGTH, LENT(w), NONE, LENT(out), LENT(masks), 5, 1, 0);
+    CALL(encrypt_masked, SLIPGREASE_REPLY_OUTPUT_LENGTH, LENT(w), LENT(in), NONE, LENT(masks), 5, 1, 0);
+    CALL(encrypt_masked, SLIPGREASE_REPLY_MASKS_LENGTH, LENT(w), LENT(in), LENT(out), NONE, 5, 1, 0);
+    CALL(encrypt_masked, SLIPGREASE_REPLY_OFFSET_RANGE, LENT(w), LENT(in), LENT(out), LENT(masks), 16, 2, 0);
+    CALL(encrypt_masked, SLIPGREASE_REPLY_STEP_WRONG, LENT(w), LENT(in), LENT(out), LENT(masks), 5, 2, 2);
+    CALL(encrypt_masked, SLIPGREASE_REPLY_FORM_UNKNOWN, LENT(w), LENT(in), LENT(out), LENT(masks), 5, 1, 2);
 
-    CALL(record_masked, SLIPGREASE_REPLY_DONE, LENT(w), LENT(in), LENT(masks), 5, LENT(record));
+    CALL(record_masked, SLIPGREASE_REPLY_DONE, LENT(w), LENT(in), LENT(masks), 5, 1, LENT(record));
     block("record_masked", record, covered);
     block("record_masked", record + 16 * (SLIPGREASE_STATES - 1), ciphertext);
-    CALL(record_masked, SLIPGREASE_REPLY_SCHEDULE_LENGTH, NONE, LENT(in), LENT(masks), 5, LENT(record));
-    CALL(record_masked, SLIPGREASE_REPLY_INPUT_LENGTH, LENT(w), NONE, LENT(masks), 5, LENT(record));
-    CALL(record_masked, SLIPGREASE_REPLY_MASKS_LENGTH, LENT(w), LENT(in), NONE, 5, LENT(record));
-    CALL(record_masked, SLIPGREASE_REPLY_OFFSET_RANGE, LENT(w), LENT(in), LENT(masks), 16, LENT(record));
-    CALL(record_masked, SLIPGREASE_REPLY_RECORD_LENGTH, LENT(w), LENT(in), LENT(masks), 5, NONE);
+    CALL(record_masked, SLIPGREASE_REPLY_SCHEDULE_LENGTH, NONE, LENT(in), LENT(masks), 5, 1, LENT(record));
+    CALL(record_masked, SLIPGREASE_REPLY_INPUT_LENGTH, LENT(w), NONE, LENT(masks), 5, 1, LENT(record));
+    CALL(record_masked, SLIPGREASE_REPLY_MASKS_LENGTH, LENT(w), LENT(in), NONE, 5, 1, LENT(record));
+    CALL(record_masked, SLIPGREASE_REPLY_OFFSET_RANGE, LENT(w), LENT(in), LENT(masks), 16, 2, LENT(record));
+    CALL(record_masked, SLIPGREASE_REPLY_STEP_WRONG, LENT(w), LENT(in), LENT(masks), 5, 2, NONE);
+    CALL(record_masked, SLIPGREASE_REPLY_RECORD_LENGTH, LENT(w), LENT(in), LENT(masks), 5, 1, NONE);
+}
+
+/* Every step, taken or not. The labels advance by it from round to round, and by one from byte to byte. */
+static void steps(void)
+{
+    static const uint8_t five[] = {5};
+    for (int i = 0; i < 256; i++) {
+        uint8_t d = (uint8_t)i, reply = SLIPGREASE_REPLY_DONE;
+        if (d == 0 || d == 2 || d == 3 || d > 15)
+            reply = SLIPGREASE_REPLY_STEP_WRONG;
+        CALL(encrypt_published, reply, LENT(w), LENT(in), LENT(out), 5, d, 1);
+        CALL(encrypt_blocks, reply, LENT(w), LENT(in), LENT(table), LENT(five), d, 1);
+        if (reply == SLIPGREASE_REPLY_DONE) {
+            under("encrypt_published", out, 5 + 14 * d, ciphertext);
+            under("encrypt_blocks", table, 5 + 14 * d, ciphertext);
+        }
+        CALL(encrypt_masked, reply, LENT(w), LENT(in), LENT(out), LENT(masks), 5, d, 1);
+        CALL(record_masked, reply, LENT(w), LENT(in), LENT(masks), 5, d, LENT(record));
+        if (reply == SLIPGREASE_REPLY_DONE) {
+            under("encrypt_masked", out, 5 + 14 * d, ciphertext);
+            under("record_masked", record, 5, plaintext);
+            under("record_masked", record + 16 * 1, 5, "00102030405060708090a0b0c0d0e0f0");
+            under("record_masked", record + 16 * 2, 5 + d, "63cab7040953d051cd60e0e7ba70e18c");
+            under("record_masked", record + 16 * 5, 5 + d, "5f72641557f5bc92f7be3b291db9f91a");
+            under("record_masked", record + 16 * 6, 5 + d, "4f63760643e0aa85efa7213201a4e705");
+            under("record_masked", record + 16 * 7, 5 + 2 * d, "84fb386f1ae1ac97df5cfd237c49946b");
+            under("record_masked", record + 16 * 10, 5 + 2 * d, "bd2a395d2b6ac438d192443e615da195");
+            block("record_masked", record + 16 * (SLIPGREASE_STATES - 1), ciphertext);
+        }
+    }
 }
 
 static void sheets(void)
 {
-    CALL(write_sheet, SLIPGREASE_REPLY_DONE, LENT(masks), LENT(sheet));
-    block("write_sheet", sheet, "4d534b0001000f3639535c656a959aa3");
-    block("write_sheet", sheet + 5, "000f3639535c656a959aa3acc6c9f0ff");
-    CALL(write_sheet, SLIPGREASE_REPLY_MASKS_LENGTH, NONE, LENT(sheet));
-    CALL(write_sheet, SLIPGREASE_REPLY_SHEET_LENGTH, LENT(masks), NONE);
+    static const char sixteen[] = "000f3639535c656a959aa3acc6c9f0ff";
+    uint8_t one[SLIPGREASE_SHEET_1_BYTES], two[SLIPGREASE_SHEET_2_BYTES];
+    CALL(write_sheet, SLIPGREASE_REPLY_DONE, LENT(masks), 1, LENT(one));
+    block("write_sheet", one, "4d534b0001000f3639535c656a959aa3");
+    block("write_sheet", one + 5, sixteen);
+    CALL(write_sheet, SLIPGREASE_REPLY_DONE, LENT(masks), 5, LENT(two));
+    block("write_sheet", two, "4d534b0002000f3639535c656a959aa3");
+    block("write_sheet", two + 5, sixteen);
+    number("write_sheet", two[21], 5);
+    CALL(write_sheet, SLIPGREASE_REPLY_STEP_WRONG, NONE, 2, NONE);
+    CALL(write_sheet, SLIPGREASE_REPLY_SHEET_LENGTH, NONE, 1, NONE);
+    CALL(write_sheet, SLIPGREASE_REPLY_SHEET_LENGTH, LENT(masks), 1, LENT(two));
+    CALL(write_sheet, SLIPGREASE_REPLY_SHEET_LENGTH, LENT(masks), 5, LENT(one));
+    CALL(write_sheet, SLIPGREASE_REPLY_MASKS_LENGTH, NONE, 1, LENT(one));
+    CALL(write_sheet, SLIPGREASE_REPLY_MASKS_LENGTH, NONE, 5, LENT(two));
 
-    CALL(read_sheet, SLIPGREASE_REPLY_DONE, LENT(sheet), LENT(table));
-    block("read_sheet", table, "000f3639535c656a959aa3acc6c9f0ff");
-    CALL(read_sheet, SLIPGREASE_REPLY_SHEET_LENGTH, NONE, LENT(table));
-    CALL(read_sheet, SLIPGREASE_REPLY_MASKS_LENGTH, LENT(sheet), NONE);
-    sheet[4] = 2;
-    CALL(read_sheet, SLIPGREASE_REPLY_VERSION_UNKNOWN, LENT(sheet), LENT(table));
-    sheet[0] = 0;
-    CALL(read_sheet, SLIPGREASE_REPLY_MARK_WRONG, LENT(sheet), LENT(table));
+    PACKED(read_sheet, SLIPGREASE_REPLY_DONE, 1, LENT(one), LENT(out));
+    block("read_sheet", out, sixteen);
+    PACKED(read_sheet, SLIPGREASE_REPLY_DONE, 5, LENT(two), LENT(table));
+    block("read_sheet", table, sixteen);
+    PACKED(read_sheet, SLIPGREASE_REPLY_MASKS_LENGTH, 0, LENT(one), NONE);
+    for (int step = 0; step < 256; step++) {
+        unsigned reply = step >= 4 && step <= 15 ? SLIPGREASE_REPLY_MASKS_LENGTH : SLIPGREASE_REPLY_STEP_WRONG;
+        two[21] = (uint8_t)step;
+        PACKED(read_sheet, reply, 0, LENT(two), NONE);
+    }
+
+    /* What comes before these two: the length of another version, then an unknown version, a wrong mark and fewer than 5 bytes. */
+    PACKED(read_sheet, SLIPGREASE_REPLY_SHEET_LENGTH, 0, two, 21, NONE);
+    two[4] = 1;
+    PACKED(read_sheet, SLIPGREASE_REPLY_SHEET_LENGTH, 0, LENT(two), NONE);
+    two[4] = 3;
+    PACKED(read_sheet, SLIPGREASE_REPLY_VERSION_UNKNOWN, 0, two, 5, NONE);
+    two[3] = two[4] = 1;
+    PACKED(read_sheet, SLIPGREASE_REPLY_VERSION_UNKNOWN, 0, LENT(two), NONE);
+    two[0] = 0;
+    PACKED(read_sheet, SLIPGREASE_REPLY_MARK_WRONG, 0, two, 5, NONE);
+    PACKED(read_sheet, SLIPGREASE_REPLY_SHEET_LENGTH, 0, two, 4, NONE);
+    PACKED(read_sheet, SLIPGREASE_REPLY_SHEET_LENGTH, 0, NONE, LENT(table));
 }
 
 static void beside(void)
@@ -190,6 +258,7 @@ static void beside(void)
     CALL(sort_reply, SLIPGREASE_GO_ON, SLIPGREASE_REPLY_DONE);
     CALL(sort_reply, SLIPGREASE_CALLER_FAULT, SLIPGREASE_REPLY_RECORD_LENGTH);
     CALL(sort_reply, SLIPGREASE_DATA_FAULT, SLIPGREASE_REPLY_NO_LOGARITHM);
+    CALL(sort_reply, SLIPGREASE_CALLER_FAULT, SLIPGREASE_REPLY_STEP_WRONG);
 }
 
 int main(int count, char **words)
@@ -198,6 +267,7 @@ int main(int count, char **words)
         spoiled = words[1];
     rack();
     module();
+    steps();
     sheets();
     beside();
     return faults;

@@ -1,13 +1,13 @@
 -- What a reply tells, for any list of checks and any work past them: a refusal is given only for its cause and changes nothing,
 -- and 0 where every check holds, and only there.
 -- Assumes nothing.
-use mathlib.Core.Path.{_≡_, refl, ap, subst}
+use mathlib.Core.Path.{_≡_, refl, sym, ap, subst, _∙_}
 use mathlib.Core.Bool.{Bool, true, false, not, _&&_}
 use mathlib.Core.List.{List, [], _∷_, _++_}
 use Prim.Native.Nat.{ℕ}
 use lib.Dec.{T, eqb}
 use mir.Facts.{and-yes}
-use Rattle.aes.specs.Reply.{Check, _else_, answer}
+use Rattle.aes.specs.Reply.{Check, _else_, answer, refusal}
 
 unfoldable pub AllHold : List Check → Type 0
 AllHold [] = Unit
@@ -53,3 +53,29 @@ module _ {A : Type 0} (before done : A) where
   holds-done [] h = refl
   holds-done ((true else m) ∷ checks) h = holds-done checks (h .1)
   holds-done ((false else m) ∷ checks) h = absurd (h .0)
+
+-- checks that are told together, by the number r, and what is checked after them
+module _ {A : Type 0} (before done : A) (more : List Check) where
+  fails : (cs : List Check) → (refusal cs ≡ 0 → ⊥) → (refusal cs, before) ≡ answer (cs ++ more) before done
+  fails [] h = absurd (h refl)
+  fails ((true else reply) ∷ cs) h = fails cs h
+  fails ((false else reply) ∷ cs) h = refl
+
+  pub refused : {r : ℕ} (cs : List Check) → r ≡ refusal cs → (r ≡ 0 → ⊥) → (r, before) ≡ answer (cs ++ more) before done
+  refused cs told h = ap (λ (n : ℕ). (n, before)) told ∙ fails cs (λ e. h (told ∙ e))
+
+  hold : (cs : List Check) → T (telling cs) → refusal cs ≡ 0 → answer more before done ≡ answer (cs ++ more) before done
+  unfolding telling
+  hold [] t e = refl
+  hold ((true else reply) ∷ cs) t e = hold cs (and-yes (not (eqb reply 0)) (telling cs) t .1) e
+  hold ((false else reply) ∷ cs) t e = absurd (nonzero reply (and-yes (not (eqb reply 0)) (telling cs) t .0) e)
+
+  pub passed : {r : ℕ} (cs : List Check) → T (telling cs) → r ≡ refusal cs → r ≡ 0 → answer more before done ≡ answer (cs ++ more) before done
+  passed cs t told e = hold cs t (sym told ∙ e)
+
+-- what is not refused has passed every check
+pub all-hold : (cs : List Check) → T (telling cs) → refusal cs ≡ 0 → AllHold cs
+unfolding AllHold telling
+all-hold [] t e = tt
+all-hold ((true else reply) ∷ cs) t e = (tt, all-hold cs (and-yes (not (eqb reply 0)) (telling cs) t .1) e)
+all-hold ((false else reply) ∷ cs) t e = absurd (nonzero reply (and-yes (not (eqb reply 0)) (telling cs) t .0) e)

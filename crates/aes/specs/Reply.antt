@@ -1,6 +1,6 @@
 -- The replies: each number's meaning in a line, and how a call's checks decide its answer.
 -- Assumes nothing.
-use mathlib.Core.Bool.{Bool, cond, not, _&&_}
+use mathlib.Core.Bool.{Bool, cond, not, _&&_, _||_}
 use mathlib.Core.List.{List, [], _∷_}
 use Prim.Native.Nat.{ℕ, _+_, _*_, _/_, _%_}
 use lib.Dec.{eqb, leb}
@@ -17,6 +17,11 @@ pub data Check : Type 0 where
 abbrev pub answer : {A : Type 0} → List Check → A → A → ℕ × A
 answer [] before done = (0, done)
 answer ((holds else reply) ∷ checks) before done = cond holds (answer checks before done) (reply, before)
+
+-- the reply of checks alone
+abbrev pub refusal : List Check → ℕ
+refusal [] = 0
+refusal ((holds else reply) ∷ checks) = cond holds (refusal checks) reply
 
 abbrev pub isKey : List ℕ → Check
 isKey key = eqb (length key) 32 else 1
@@ -58,8 +63,9 @@ hasLogarithm b = not (eqb b 0) else 9
 abbrev pub isPower : ℕ → Check
 isPower n = leb n 254 else 10
 
-abbrev pub isSheet : List ℕ → Check
-isSheet sheet = eqb (length sheet) 21 else 11
+-- mark and version are there
+abbrev pub hasHead : List ℕ → Check
+hasHead sheet = leb 5 (length sheet) else 11
 
 -- the mark "MSK"
 abbrev pub marked : List ℕ → Bool
@@ -73,8 +79,29 @@ abbrev pub version : List ℕ → ℕ
 version sheet = getD sheet 3 0 * 256 + getD sheet 4 0
 
 abbrev pub isVersion : List ℕ → Check
-isVersion sheet = eqb (version sheet) 1 else 13
+isVersion sheet = (eqb (version sheet) 1 || eqb (version sheet) 2) else 13
+
+-- 21 bytes where the step is 1, which version 1 means, and else 22
+abbrev pub isWhole : List ℕ → Check
+isWhole sheet = eqb (length sheet) (cond (eqb (version sheet) 1) 21 22) else 11
+
+abbrev pub isSheetOf : ℕ → List ℕ → Check
+isSheetOf step sheet = eqb (length sheet) (cond (eqb step 1) 21 22) else 11
 
 -- an offset for each block
 abbrev pub hasOffsets : List ℕ → List ℕ → Check
 hasOffsets input offsets = eqb (length offsets) (length input / 16) else 14
+
+-- a step is 1, or 4 to 15
+abbrev pub taken : ℕ → Bool
+taken step = (eqb step 1 || leb 4 step) && leb step 15
+
+abbrev pub isStep : ℕ → Check
+isStep step = taken step else 15
+
+-- the step of a sheet: 1 in version 1, and in version 2 the last byte, which is none of 0 to 3
+abbrev pub stepOf : List ℕ → ℕ
+stepOf sheet = cond (eqb (version sheet) 1) 1 (getD sheet 21 0)
+
+abbrev pub hasStep : List ℕ → Check
+hasStep sheet = (eqb (version sheet) 1 || (leb 4 (stepOf sheet) && leb (stepOf sheet) 15)) else 15

@@ -30,6 +30,8 @@ pub const VERSION_UNKNOWN: u8 = 13;
 
 pub const OFFSETS_LENGTH: u8 = 14;
 
+pub const STEP_WRONG: u8 = 15;
+
 // A reply number and a value side by side; a refusal has value 0.
 pub struct Valued {
     pub number: u8,

@@ -53,7 +53,7 @@ encrypt-blocks-unique κs args e f x y p q = both x y _ _ _ p q
 pub encrypt-masked-unique : UniqueWriting encrypt-masked.Post (λ κs e. e .1 .1 .0 .now)
 encrypt-masked-unique κs args e f x y p q = both x y _ _ _ p q
 
-pub record-masked-unique : UniqueWriting record-masked.Post (λ κs e. e .1 .1 .1 .1 .0 .now)
+pub record-masked-unique : UniqueWriting record-masked.Post (λ κs e. e .1 .1 .1 .1 .1 .0 .now)
 record-masked-unique κs args e f x y p q = both x y _ _ _ p q
 
 pub masked-inverse-unique : Unique masked-inverse.Post
@@ -65,7 +65,7 @@ fitness-unique κs args exit x y p q = p ∙ sym q
 pub read-sheet-unique : UniqueWriting read-sheet.Post (λ κs e. e .1 .0 .now)
 read-sheet-unique κs args e f x y p q = both x y _ _ _ p q
 
-pub write-sheet-unique : UniqueWriting write-sheet.Post (λ κs e. e .1 .0 .now)
+pub write-sheet-unique : UniqueWriting write-sheet.Post (λ κs e. e .1 .1 .0 .now)
 write-sheet-unique κs args e f x y p q = both x y _ _ _ p q
 
 pub sort-reply-unique : Unique sort-reply.Post

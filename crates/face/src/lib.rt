@@ -4,11 +4,11 @@ ghost use mathlib.Core.Path.{_≡_};
 ghost use Rattle.aes.specs.Field.{_•_, inverse};
 ghost use Rattle.aes.specs.Calls.{expandKeyOf, encryptOf, decryptOf, recordPlainOf, powerOf, logarithmOf};
 ghost use Rattle.masked.specs.Calls.{encryptPublishedOf, encryptBlocksOf, encryptMaskedOf, recordMaskedOf};
-ghost use Rattle.masked.specs.Sheet.{readSheetOf, writeSheetOf};
+ghost use Rattle.masks.specs.Sheet.{readSheetOf, writeSheetOf};
 ghost use Rattle.beside.specs.Fitness.{fitnessOf};
 ghost use Rattle.beside.specs.Inversion.{maskedInverse};
 ghost use Rattle.beside.specs.Host.{sortedNumber, sortReplyOf};
-ghost use Rattle.face.specs.Packed.{packed};
+ghost use Rattle.face.specs.Packed.{packed, packedBeside};
 use aes::reply::Valued;
 use beside::Sorted;
 
@@ -46,11 +46,12 @@ pub extern "C" fn slipgrease_encrypt_published(
     input: &[u8],
     output: &mut [u8],
     offset: u8,
+    step: u8,
     form: u8,
 ) -> u8
-    ensures { λ r. ⌜ (r, now (output .exit)) ≡ encryptPublishedOf (now (schedule .entry)) (now (input .entry)) (now (output .entry)) offset form ⌝ }
+    ensures { λ r. ⌜ (r, now (output .exit)) ≡ encryptPublishedOf (now (schedule .entry)) (now (input .entry)) (now (output .entry)) offset step form ⌝ }
 {
-    masked::encrypt_published(schedule, input, output, offset, form)
+    masked::encrypt_published(schedule, input, output, offset, step, form)
 }
 
 #[no_mangle]
@@ -59,11 +60,12 @@ pub extern "C" fn slipgrease_encrypt_blocks(
     input: &[u8],
     output: &mut [u8],
     offsets: &[u8],
+    step: u8,
     form: u8,
 ) -> u8
-    ensures { λ r. ⌜ (r, now (output .exit)) ≡ encryptBlocksOf (now (schedule .entry)) (now (input .entry)) (now (output .entry)) (now (offsets .entry)) form ⌝ }
+    ensures { λ r. ⌜ (r, now (output .exit)) ≡ encryptBlocksOf (now (schedule .entry)) (now (input .entry)) (now (output .entry)) (now (offsets .entry)) step form ⌝ }
 {
-    masked::encrypt_blocks(schedule, input, output, offsets, form)
+    masked::encrypt_blocks(schedule, input, output, offsets, step, form)
 }
 
 #[no_mangle]
@@ -73,11 +75,12 @@ pub extern "C" fn slipgrease_encrypt_masked(
     output: &mut [u8],
     masks: &[u8],
     offset: u8,
+    step: u8,
     form: u8,
 ) -> u8
-    ensures { λ r. ⌜ (r, now (output .exit)) ≡ encryptMaskedOf (now (schedule .entry)) (now (input .entry)) (now (output .entry)) (now (masks .entry)) offset form ⌝ }
+    ensures { λ r. ⌜ (r, now (output .exit)) ≡ encryptMaskedOf (now (schedule .entry)) (now (input .entry)) (now (output .entry)) (now (masks .entry)) offset step form ⌝ }
 {
-    masked::encrypt_masked(schedule, input, output, masks, offset, form)
+    masked::encrypt_masked(schedule, input, output, masks, offset, step, form)
 }
 
 #[no_mangle]
@@ -86,25 +89,26 @@ pub extern "C" fn slipgrease_record_masked(
     input: &[u8],
     masks: &[u8],
     offset: u8,
+    step: u8,
     states: &mut [u8],
 ) -> u8
-    ensures { λ r. ⌜ (r, now (states .exit)) ≡ recordMaskedOf (now (schedule .entry)) (now (input .entry)) (now (masks .entry)) offset (now (states .entry)) ⌝ }
+    ensures { λ r. ⌜ (r, now (states .exit)) ≡ recordMaskedOf (now (schedule .entry)) (now (input .entry)) (now (masks .entry)) offset step (now (states .entry)) ⌝ }
 {
-    masked::record_masked(schedule, input, masks, offset, states)
+    masked::record_masked(schedule, input, masks, offset, step, states)
 }
 
 #[no_mangle]
-pub extern "C" fn slipgrease_read_sheet(sheet: &[u8], masks: &mut [u8]) -> u8
-    ensures { λ r. ⌜ (r, now (masks .exit)) ≡ readSheetOf (now (sheet .entry)) (now (masks .entry)) ⌝ }
+pub extern "C" fn slipgrease_read_sheet(sheet: &[u8], masks: &mut [u8]) -> u16
+    ensures { λ r. ⌜ (r, now (masks .exit)) ≡ packedBeside (readSheetOf (now (sheet .entry)) (now (masks .entry))) ⌝ }
 {
-    masked::read_sheet(sheet, masks)
+    packed(masks::read_sheet(sheet, masks))
 }
 
 #[no_mangle]
-pub extern "C" fn slipgrease_write_sheet(masks: &[u8], sheet: &mut [u8]) -> u8
-    ensures { λ r. ⌜ (r, now (sheet .exit)) ≡ writeSheetOf (now (masks .entry)) (now (sheet .entry)) ⌝ }
+pub extern "C" fn slipgrease_write_sheet(masks: &[u8], step: u8, sheet: &mut [u8]) -> u8
+    ensures { λ r. ⌜ (r, now (sheet .exit)) ≡ writeSheetOf (now (masks .entry)) step (now (sheet .entry)) ⌝ }
 {
-    masked::write_sheet(masks, sheet)
+    masks::write_sheet(masks, step, sheet)
 }
 
 #[no_mangle]

@@ -11,19 +11,19 @@ use mir.Facts.{and-yes}
 use Rattle.aes.specs.State.{at, addRoundKey}
 use Rattle.aes.specs.Record.{final, block, wholes, points, run, last}
 use Rattle.aes.proofs.Below.{under}
-use Rattle.aes.proofs.Replies.{AllHold, telling, holds-done}
+use Rattle.aes.proofs.Replies.{AllHold, telling, holds-done, all-hold}
 use Rattle.aes.proofs.Written.{run-append, last-append}
 use Rattle.masks.specs.Mask.{published, inRow}
 use Rattle.masked.specs.Run.{covered, maskedRecord, maskedCipher}
-use Rattle.masked.specs.Calls.{refusal, publishedChecks, blockAt, blocksChecks, encryptPublishedOf}
+use Rattle.aes.specs.Reply.{refusal}
+use Rattle.masked.specs.Calls.{publishedChecks, blockAt, blocksChecks, encryptPublishedOf}
 use Rattle.masks.proofs.Row.{row-same}
-use Rattle.masked.proofs.Checked.{all-hold}
 
 -- a run ends in sixteen bytes
-pub masked-size : (nr form : ℕ) (M : List ℕ) (o : ℕ) (w b : List ℕ) → length (maskedCipher nr form M o w b) ≡ 16
+pub masked-size : (nr form : ℕ) (M : List ℕ) (o d : ℕ) (w b : List ℕ) → length (maskedCipher nr form M o d w b) ≡ 16
 unfolding maskedCipher maskedRecord points run last covered addRoundKey
-masked-size nr form M o w b =
-    let f = covered form M o w in
+masked-size nr form M o d w b =
+    let f = covered form M o d w in
     let ps = block ∷ wholes (nr - 1) in
     rw (run-append f ps (final (nr - 1)) b, last-append b (run f b ps) (run f (last b (run f b ps)) (final (nr - 1)))) refl
 
@@ -31,21 +31,21 @@ block-size : (k n : ℕ) (xs : List ℕ) → length xs ≡ 16 * n → k < n → 
 block-size k n xs l lt = length-take-le 16 (drop (16 * k) xs) (rw length-drop (omega arith))
 
 -- the row that the loop makes: block k, alone and in its place
-abbrev pub ciphers : List ℕ → List ℕ → List ℕ → ℕ → ℕ → List ℕ
-ciphers schedule input offsets form k = maskedCipher 14 form published (at offsets k) schedule (blockAt k input)
+abbrev pub ciphers : List ℕ → List ℕ → List ℕ → ℕ → ℕ → ℕ → List ℕ
+ciphers schedule input offsets step form k = maskedCipher 14 form published (at offsets k) step schedule (blockAt k input)
 
 -- what the checks tell of a call that they let pass
-pub record Passed (w b out offsets : List ℕ) (form : ℕ) : Type 0 where
+pub record Passed (w b out offsets : List ℕ) (d form : ℕ) : Type 0 where
   pub schedule : length w ≡ 240
   pub input : length b ≡ 16 * length offsets
   pub output : length out ≡ 16 * length offsets
   pub blocks : length b / 16 ≡ length offsets
-  pub alone : (k : ℕ) → k < length offsets → AllHold (publishedChecks w (blockAt k b) (blockAt k out) (at offsets k) form)
+  pub alone : (k : ℕ) → k < length offsets → AllHold (publishedChecks w (blockAt k b) (blockAt k out) (at offsets k) d form)
 
-pub passed-blocks : (w b out offsets : List ℕ) (form : ℕ) → refusal (blocksChecks w b out offsets form) ≡ 0 → Passed w b out offsets form
+pub passed-blocks : (w b out offsets : List ℕ) (d form : ℕ) → refusal (blocksChecks w b out offsets d form) ≡ 0 → Passed w b out offsets d form
 unfolding AllHold telling
-passed-blocks w b out offsets form e =
-    let h = all-hold (blocksChecks w b out offsets form) tt e in
+passed-blocks w b out offsets d form e =
+    let h = all-hold (blocksChecks w b out offsets d form) tt e in
     let whole : length b % 16 ≡ 0 = eqb→eq (length b % 16) 0 (and-yes (eqb (length b % 16) 0) (leb (length b) 4096) (h .1 .0) .0) in
     let long : length out ≡ length b = eqb→eq (length out) (length b) (h .1 .1 .0) in
     let n : length offsets ≡ length b / 16 = eqb→eq (length offsets) (length b / 16) (h .1 .1 .1 .0) in
@@ -62,9 +62,9 @@ passed-blocks w b out offsets form e =
     }
 
 -- what the loop makes is what single calls do
-pub as-single : {w b out offsets : List ℕ} {form : ℕ} → Passed w b out offsets form
-    → inRow (ciphers w b offsets form) (length offsets)
-    ≡ inRow (λ k. encryptPublishedOf w (blockAt k b) (blockAt k out) (at offsets k) form .1) (length b / 16)
-as-single {w} {b} {out} {offsets} {form} p =
+pub as-single : {w b out offsets : List ℕ} {d form : ℕ} → Passed w b out offsets d form
+    → inRow (ciphers w b offsets d form) (length offsets)
+    ≡ inRow (λ k. encryptPublishedOf w (blockAt k b) (blockAt k out) (at offsets k) d form .1) (length b / 16)
+as-single {w} {b} {out} {offsets} {d} {form} p =
     rw (p .blocks)
     (row-same _ _ (length offsets) (λ k lt. sym (ap (λ (r : ℕ × List ℕ). r .1) (holds-done (blockAt k out) _ _ (p .alone k lt)))))

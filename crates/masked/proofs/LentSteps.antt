@@ -18,21 +18,21 @@ use Rattle.aes.proofs.Boxes.{sBox-byte}
 use Rattle.aes.proofs.Undo.{state-bytes, add-bytes, key-bytes, shift-bytes, mix-bytes}
 use Rattle.aes.proofs.Part.{back}
 use Rattle.aes.proofs.Written.{Sized, Written, turns, recorded-one, written-block, written-turn, run-append, last-append}
-use Rattle.masks.specs.Mask.{_⊞_, maskByte, mask, maskedBox, maskedBoxes, compensation, allCompensations, ending}
+use Rattle.masks.specs.Mask.{_⊞_, label, mask, maskedBox, maskedBoxes, compensation, allCompensations, ending}
 use Rattle.masked.specs.Run.{covered, maskedRecord}
 use Rattle.masked.specs.Lent.{boxedBy, steps, pointAfter}
-use Rattle.masks.proofs.Stored.{box-at, compensation-at}
+use Rattle.masks.proofs.Stored.{box-at, constant-at}
 
-pub steps-sized : (w b c : List ℕ) (o : ℕ) (end : List ℕ) → Sized (steps w b c o end)
+pub steps-sized : (w b c : List ℕ) (o d : ℕ) (end : List ℕ) → Sized (steps w b c o d end)
 unfolding steps addRoundKey boxedBy shiftRows mixColumns
-steps-sized w b c o end block s l = l
-steps-sized w b c o end (keyed r) s l = refl
-steps-sized w b c o end (boxed r) s l = refl
-steps-sized w b c o end (shifted r) s l = refl
-steps-sized w b c o end (mixed r) s l = refl
-steps-sized w b c o end (compensated r) s l = refl
-steps-sized w b c o end (closed r) s l = refl
-steps-sized w b c o end (uncovered r) s l = refl
+steps-sized w b c o d end block s l = l
+steps-sized w b c o d end (keyed r) s l = refl
+steps-sized w b c o d end (boxed r) s l = refl
+steps-sized w b c o d end (shifted r) s l = refl
+steps-sized w b c o d end (mixed r) s l = refl
+steps-sized w b c o d end (compensated r) s l = refl
+steps-sized w b c o d end (closed r) s l = refl
+steps-sized w b c o d end (uncovered r) s l = refl
 
 -- where a run goes on from
 pub reached-more : (f : Point → List ℕ → List ℕ) (ps qs : List Point) (s t u : List ℕ)
@@ -85,54 +85,52 @@ pub recorded-block : {f : Point → List ℕ → List ℕ} → Sized f → {s t 
     → (0 ≤ 69) × (length s ≡ 16) × (length (back xs 0 16 ys) ≡ 1136) × Written f s 1136 (block ∷ turns after 0) t (back xs 0 16 ys)
 recorded-block h l xs room et ey = recorded-so-far (lit≤ tt) l (written-block h l xs room et ey)
 
--- labels are counted modulo 16
-pub mask-turn : (M : List ℕ) (j k : ℕ) → j % 16 ≡ k % 16 → mask M j ≡ mask M k
+-- labels are counted modulo 16: the label of byte i, where that of byte 0 is known, and the mask of a label
+turn : (o k i : ℕ) → ((o + k) % 16 + i) % 16 ≡ label o k i
+turn o k i = omega arith
+
+mask-turn : (M : List ℕ) (o k : ℕ) → mask M 0 ((o + k) % 16) ≡ mask M o k
 unfolding mask table
-mask-turn M j k e = table-same (maskByte M j) (maskByte M k) 16 (λ i h. ap (at M) (omega arith))
+mask-turn M o k = table-same (λ i. at M (label 0 ((o + k) % 16) i)) (λ i. at M (label o k i)) 16 (λ i h. ap (at M) (omega arith))
 
-box-turn : (M : List ℕ) (j k x : ℕ) → j % 16 ≡ k % 16 → maskedBox M j x ≡ maskedBox M k x
-unfolding maskedBox
-box-turn M j k x e =
-    let next : (j + 1) % 16 ≡ (k + 1) % 16 = omega arith in
-    rw (e, next)
+pub mask-on : (M : List ℕ) (o k n : ℕ) → mask M ((o + k) % 16) n ≡ mask M o (k + n)
+unfolding mask table
+mask-on M o k n = table-same (λ i. at M (label ((o + k) % 16) n i)) (λ i. at M (label o (k + n) i)) 16 (λ i h. ap (at M) (omega arith))
 
-compensation-turn : (M : List ℕ) (j k : ℕ) → j % 16 ≡ k % 16 → compensation M j ≡ compensation M k
-unfolding compensation
-compensation-turn M j k e = rw (mask-turn M j k e)
-
-module _ {M w : List ℕ} (hM : Bytes 16 M) (hw : Bytes 240 w) (form o : ℕ) where
-  mask-bytes : (j : ℕ) → Bytes 16 (mask M j)
+module _ {M w : List ℕ} (hM : Bytes 16 M) (hw : Bytes 240 w) (form o d : ℕ) where
+  mask-bytes : (k : ℕ) → Bytes 16 (mask M o k)
   unfolding mask
-  mask-bytes j = state-bytes (maskByte M j) (λ i. hM .byte _)
+  mask-bytes k = state-bytes (λ i. at M (label o k i)) (λ i. hM .byte _)
 
-  box-byte : (j x : ℕ) → x < 256 → maskedBox M j x < 256
+  box-byte : (j x : ℕ) → x < 256 → maskedBox M d j x < 256
   unfolding maskedBox
   box-byte j x h =
-      xor-byte (sBox (x ⊕ at M (j % 16))) (at M ((j + 1) % 16)) (sBox-byte (x ⊕ at M (j % 16)) (xor-byte x (at M (j % 16)) h (hM .byte (j % 16)))) (hM .byte ((j + 1) % 16))
+      xor-byte (sBox (x ⊕ at M (j % 16))) (at M ((j + d) % 16)) (sBox-byte (x ⊕ at M (j % 16)) (xor-byte x (at M (j % 16)) h (hM .byte (j % 16)))) (hM .byte ((j + d) % 16))
 
-  compensation-bytes : (j : ℕ) → Bytes 16 (compensation M j)
+  compensation-bytes : (k : ℕ) → Bytes 16 (compensation (mask M o k))
   unfolding compensation
-  compensation-bytes j = add-bytes (mask-bytes j) (mix-bytes (shiftRows (mask M j)))
+  compensation-bytes k = add-bytes (mask-bytes k) (mix-bytes (shiftRows (mask M o k)))
 
-  ending-bytes : (f : ℕ) (j : ℕ) → Bytes 16 (ending f (mask M j))
+  ending-bytes : (f : ℕ) (k : ℕ) → Bytes 16 (ending f (mask M o k))
   unfolding ending
-  ending-bytes zero j = shift-bytes (mask-bytes j)
-  ending-bytes (suc f) j = add-bytes (mask-bytes j) (shift-bytes (mask-bytes j))
+  ending-bytes zero k = shift-bytes (mask-bytes k)
+  ending-bytes (suc f) k = add-bytes (mask-bytes k) (shift-bytes (mask-bytes k))
 
-  covered-bytes : (p : Point) {s : List ℕ} → Bytes 16 s → Bytes 16 (covered form M o w p s)
+  covered-bytes : (p : Point) {s : List ℕ} → Bytes 16 s → Bytes 16 (covered form M o d w p s)
   unfolding covered
-  covered-bytes block h = add-bytes h (mask-bytes o)
+  covered-bytes block h = add-bytes h (mask-bytes 0)
   covered-bytes (keyed r) h = add-bytes h (key-bytes 240 w hw r)
-  covered-bytes (boxed r) {s} h = state-bytes (λ i. maskedBox M (o + i + r) (at s i)) (λ i. box-byte (o + i + r) (at s i) (h .byte i))
+  covered-bytes (boxed r) {s} h =
+      state-bytes (λ i. maskedBox M d (label o (d * r) i) (at s i)) (λ i. box-byte (label o (d * r) i) (at s i) (h .byte i))
   covered-bytes (shifted r) h = shift-bytes h
   covered-bytes (mixed r) {s} h = mix-bytes s
-  covered-bytes (compensated r) h = add-bytes h (compensation-bytes (o + 1 + r))
+  covered-bytes (compensated r) h = add-bytes h (compensation-bytes (d * suc r))
   covered-bytes (closed r) h = add-bytes h (key-bytes 240 w hw (suc r))
-  covered-bytes (uncovered r) h = add-bytes h (ending-bytes form (o + suc r))
+  covered-bytes (uncovered r) h = add-bytes h (ending-bytes form (d * suc r))
 
   -- the steps as a run of fourteen rounds has them
   abbrev lent : Point → List ℕ → List ℕ
-  lent = steps w (maskedBoxes M) (allCompensations M) o (ending form (mask M ((o + 14) % 16)))
+  lent = steps w (maskedBoxes M d) (allCompensations M) o d (ending form (mask M 0 ((o + d * 14) % 16)))
 
   -- behind the covered block, and uncovered after round 13 alone
   due : Point → Bool
@@ -145,20 +143,19 @@ module _ {M w : List ℕ} (hM : Bytes 16 M) (hw : Bytes 240 w) (form o : ℕ) wh
   due (closed r) = true
   due (uncovered r) = eqb r 13
 
-  lent-is : (p : Point) → T (due p) → (s : List ℕ) → Bytes 16 s → lent p s ≡ covered form M o w p s
+  lent-is : (p : Point) → T (due p) → (s : List ℕ) → Bytes 16 s → lent p s ≡ covered form M o d w p s
   unfolding due steps covered boxedBy table
   lent-is (keyed r) t s h = refl
   lent-is (boxed r) t s h =
-      table-same (λ i. at (maskedBoxes M) (256 * (((o + r) % 16 + i) % 16) + at s i)) (λ i. maskedBox M (o + i + r) (at s i)) 16
-      (λ i l. box-at M (((o + r) % 16 + i) % 16) (at s i) (omega arith) (h .byte i) ∙ box-turn M (((o + r) % 16 + i) % 16) (o + i + r) (at s i) (omega arith))
+      table-same (λ i. at (maskedBoxes M d) (256 * (((o + d * r) % 16 + i) % 16) + at s i)) (λ i. maskedBox M d (label o (d * r) i) (at s i)) 16
+      (λ i l. rw (turn o (d * r) i) (box-at M d (label o (d * r) i) (at s i) (omega arith) (h .byte i)))
   lent-is (shifted r) t s h = refl
   lent-is (mixed r) t s h = refl
   lent-is (compensated r) t s h =
-      ap (λ (k : List ℕ). s ⊞ k) (compensation-at M ((o + suc r) % 16) (omega arith) ∙ compensation-turn M ((o + suc r) % 16) (o + 1 + r) (omega arith))
+      ap (λ (k : List ℕ). s ⊞ k) (constant-at M ((o + d * suc r) % 16) (omega arith) ∙ ap compensation (mask-turn M o (d * suc r)))
   lent-is (closed r) t s h = refl
   lent-is (uncovered r) t s h =
-      let e : r ≡ 13 = eqb→eq r 13 t in
-      ap (λ (m : List ℕ). s ⊞ ending form m) (mask-turn M ((o + 14) % 16) (o + suc r) (omega arith))
+      ap (λ (m : List ℕ). s ⊞ ending form m) (mask-turn M o (d * 14) ∙ ap (λ (k : ℕ). mask M o (d * suc k)) (sym (eqb→eq r 13 t)))
 
   run-block : (s : List ℕ) (ps : List Point) → run lent s (block ∷ ps) ≡ s ∷ run lent s ps
   unfolding run steps
@@ -168,21 +165,23 @@ module _ {M w : List ℕ} (hM : Bytes 16 M) (hw : Bytes 240 w) (form o : ℕ) wh
   all-due [] = true
   all-due (p ∷ ps) = due p && all-due ps
 
-  run-is : (ps : List Point) → T (all-due ps) → (s : List ℕ) → Bytes 16 s → run lent s ps ≡ run (covered form M o w) s ps
+  run-is : (ps : List Point) → T (all-due ps) → (s : List ℕ) → Bytes 16 s → run lent s ps ≡ run (covered form M o d w) s ps
   unfolding all-due run
   run-is [] t s h = refl
   run-is (p ∷ ps) t s h =
-      let d = and-yes (due p) (all-due ps) t in
-      rw (lent-is p (d .0) s h) (ap (λ (u : List (List ℕ)). covered form M o w p s ∷ u) (run-is ps (d .1) (covered form M o w p s) (covered-bytes p h)))
+      let both = and-yes (due p) (all-due ps) t in
+      rw (lent-is p (both .0) s h)
+      (ap (λ (u : List (List ℕ)). covered form M o d w p s ∷ u) (run-is ps (both .1) (covered form M o d w p s) (covered-bytes p h)))
 
   -- what a run of the steps records, where it is lent the right tables and starts from the covered block
-  pub lent-record : {input : List ℕ} → Bytes 16 input → (s b c end : List ℕ) → s ≡ input ⊞ mask M (o % 16) → b ≡ maskedBoxes M
-      → c ≡ allCompensations M → end ≡ ending form (mask M ((o + 14) % 16))
-      → run (steps w b c o end) s (points 14) ≡ maskedRecord 14 form M o w input
+  pub lent-record : {input : List ℕ} → Bytes 16 input → (s b c end : List ℕ) → s ≡ input ⊞ mask M 0 (o % 16) → b ≡ maskedBoxes M d
+      → c ≡ allCompensations M → end ≡ ending form (mask M 0 ((o + d * 14) % 16))
+      → run (steps w b c o d end) s (points 14) ≡ maskedRecord 14 form M o d w input
   unfolding maskedRecord points wholes all-due due covered
   lent-record {input} h s b c end es eb ec ee =
-      let start : s ≡ input ⊞ mask M o = es ∙ ap (λ (m : List ℕ). input ⊞ m) (mask-turn M (o % 16) o (omega arith)) in
-      (λ i. run (steps w (eb i) (ec i) o (ee i)) (start i) (points 14))
-      ∙ run-block (input ⊞ mask M o) (wholes 13 ++ final 13)
-      ∙ ap (λ (u : List (List ℕ)). (input ⊞ mask M o) ∷ u) (run-is (wholes 13 ++ final 13) tt (input ⊞ mask M o) (add-bytes h (mask-bytes o)))
-      ∙ sym (run-first (covered form M o w) input block (wholes 13 ++ final 13))
+      let zero-on : o % 16 ≡ (o + 0) % 16 = omega arith in
+      let start : s ≡ input ⊞ mask M o 0 = es ∙ ap (λ (m : List ℕ). input ⊞ m) (ap (mask M 0) zero-on ∙ mask-turn M o 0) in
+      (λ i. run (steps w (eb i) (ec i) o d (ee i)) (start i) (points 14))
+      ∙ run-block (input ⊞ mask M o 0) (wholes 13 ++ final 13)
+      ∙ ap (λ (u : List (List ℕ)). (input ⊞ mask M o 0) ∷ u) (run-is (wholes 13 ++ final 13) tt (input ⊞ mask M o 0) (add-bytes h (mask-bytes 0)))
+      ∙ sym (run-first (covered form M o d w) input block (wholes 13 ++ final 13))

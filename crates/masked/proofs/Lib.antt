@@ -4,5 +4,4 @@ pub mod Ordered
 pub mod Owned
 pub mod Checked
 pub mod Batch
-pub mod Headed
 pub mod Unique

@@ -1,24 +1,26 @@
 -- The order of the boxes: each position stands in it once, so that a loop through it fills a state; and with the published masks
 -- what a box gives and what the next one takes never lie under one mask.
 -- Assumes nothing.
-use mathlib.Core.Path.{_≡_, refl, sym, _∙_}
-use mathlib.Core.Bool.{not}
+use mathlib.Core.Path.{_≡_, refl, sym, ap, _∙_}
+use mathlib.Core.Bool.{Bool, true, false, not, _&&_, _||_}
 use mathlib.Core.List.{List}
 use Prim.Native.Nat.{ℕ, _+_, _%_, _≤_, _<_}
+use native.Mathlib.Nat.{add-zero}
 use native.Mathlib.Omega.{arith}
 use native.Mathlib.Decide.{ℕ-discrete}
-use lib.Dec.{T, eqb, ltb, lit<, lit≤}
+use lib.Dec.{T, eqb, leb, ltb, lit<, lit≤}
 use lib.ListN.{length, set, length-set}
 use lib.Seq.{getD-set-same, getD-set-other}
-use mir.Facts.{eqb-no}
+use mir.Facts.{and-yes, eqb-no}
 use Rattle.aes.specs.Byte.{table, place, below}
 use Rattle.aes.specs.State.{at, state}
+use Rattle.aes.specs.Reply.{taken}
 use Rattle.aes.proofs.Listed.{Inverted, place-below, place-right, place-only}
 use Rattle.aes.proofs.Fill.{filled-all}
 use Rattle.aes.proofs.Below.{under}
 use Rattle.masks.specs.Mask.{published, mask}
 use Rattle.masked.specs.Order.{boxOrder, between}
-use Rattle.masked.proofs.LentSteps.{mask-turn}
+use Rattle.masked.proofs.LentSteps.{mask-on}
 
 -- computed: a permutation of the sixteen positions
 permuted : Inverted (λ p. p) 16 (table (at boxOrder) 16)
@@ -68,12 +70,19 @@ called-all {f} {k} {r} c h = filled-all (record { room = c .room; within = lit�
     at-i : (i : ℕ) → i < 16 → at r i ≡ f i
     at-i i lt = let p = order-place i lt in rw (p .1) at (c .so-far (place i boxOrder) (omega arith))
 
--- computed: with the published masks the mask between two boxes is never 00
-between-test : T (below 16 (λ j. below 15 (λ k. not (eqb (between boxOrder (mask published j) (mask published (j + 1)) k) 0))))
+-- computed: with the published masks the mask between two boxes is never 00, whatever the step is that is taken
+between-test : T (below 16 (λ d. not (taken d) || below 16 (λ j. below 15 (λ k. not (eqb (between boxOrder (mask published j 0) (mask published j d) k) 0)))))
 unfolding boxOrder published mask below
 between-test = tt
 
-pub lucky : (j k : ℕ) → k < 15 → between boxOrder (mask published j) (mask published (j + 1)) k ≡ 0 → ⊥
-lucky j k h =
-    rw (mask-turn published j (j % 16) (omega arith), mask-turn published (j + 1) (j % 16 + 1) (omega arith))
-    (eqb-no (under _ 15 (under _ 16 between-test (j % 16) (omega arith)) k h))
+met : (a b : Bool) → T a → T (not a || b) → T b
+met true b t u = u
+met false b t u = absurd t
+
+pub lucky : (o n d k : ℕ) → T (taken d) → k < 15 → between boxOrder (mask published o n) (mask published o (n + d)) k ≡ 0 → ⊥
+lucky o n d k t h =
+    let j : ℕ = (o + n) % 16 in
+    let small : d ≤ 15 = lit≤ (and-yes (eqb d 1 || leb 4 d) (leb d 15) t .1) in
+    let row = under _ 16 (met (taken d) _ t (under _ 16 between-test d (omega (arith, small)))) j (omega arith) in
+    let taken-is : mask published o n ≡ mask published j 0 = sym (mask-on published o n 0 ∙ ap (mask published o) (add-zero n)) in
+    rw (taken-is, sym (mask-on published o n d)) (eqb-no (under _ 15 row k h))

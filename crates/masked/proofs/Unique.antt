@@ -5,8 +5,6 @@ use Rattle.masked.proofs.calls.encrypt.encrypt_masked.Reads as encrypt-
 use Rattle.masked.proofs.calls.encrypt.encrypt_published.Reads as encrypt-published
 use Rattle.masked.proofs.calls.many.encrypt_blocks.Reads as encrypt-blocks
 use Rattle.masked.proofs.calls.record.record_masked.Reads as record-masked
-use Rattle.masked.proofs.sheet.read_sheet.Reads as read-sheet
-use Rattle.masked.proofs.sheet.write_sheet.Reads as write-sheet
 
 pub encrypt-published-unique : UniqueWriting encrypt-published.Post (λ κs e. e .1 .1 .0 .now)
 encrypt-published-unique κs args e f x y p q = both x y _ _ _ p q
@@ -17,11 +15,5 @@ encrypt-masked-unique κs args e f x y p q = both x y _ _ _ p q
 pub encrypt-blocks-unique : UniqueWriting encrypt-blocks.Post (λ κs e. e .1 .1 .0 .now)
 encrypt-blocks-unique κs args e f x y p q = both x y _ _ _ p q
 
-pub record-masked-unique : UniqueWriting record-masked.Post (λ κs e. e .1 .1 .1 .1 .0 .now)
+pub record-masked-unique : UniqueWriting record-masked.Post (λ κs e. e .1 .1 .1 .1 .1 .0 .now)
 record-masked-unique κs args e f x y p q = both x y _ _ _ p q
-
-pub read-sheet-unique : UniqueWriting read-sheet.Post (λ κs e. e .1 .0 .now)
-read-sheet-unique κs args e f x y p q = both x y _ _ _ p q
-
-pub write-sheet-unique : UniqueWriting write-sheet.Post (λ κs e. e .1 .0 .now)
-write-sheet-unique κs args e f x y p q = both x y _ _ _ p q

@@ -16,16 +16,17 @@ boxedBy b j s = state (λ i. at b (256 * ((j + i) % 16) + at s i))
 abbrev pub sixteen : List ℕ → ℕ → List ℕ
 sixteen = roundKey
 
--- the steps at offset o over a schedule w, boxes b and compensations c, with the last constant; the block has been covered
-unfoldable pub steps : List ℕ → List ℕ → List ℕ → ℕ → List ℕ → Point → List ℕ → List ℕ
-steps w b c o end block s = s
-steps w b c o end (keyed r) s = s ⊞ roundKey w r
-steps w b c o end (boxed r) s = boxedBy b ((o + r) % 16) s
-steps w b c o end (shifted r) s = shiftRows s
-steps w b c o end (mixed r) s = mixColumns s
-steps w b c o end (compensated r) s = s ⊞ sixteen c ((o + suc r) % 16)
-steps w b c o end (closed r) s = s ⊞ roundKey w (suc r)
-steps w b c o end (uncovered r) s = s ⊞ end
+-- the steps at offset o, labels advancing by d, over a schedule w, boxes b and compensations c, with the last constant; the block has
+-- been covered
+unfoldable pub steps : List ℕ → List ℕ → List ℕ → ℕ → ℕ → List ℕ → Point → List ℕ → List ℕ
+steps w b c o d end block s = s
+steps w b c o d end (keyed r) s = s ⊞ roundKey w r
+steps w b c o d end (boxed r) s = boxedBy b ((o + d * r) % 16) s
+steps w b c o d end (shifted r) s = shiftRows s
+steps w b c o d end (mixed r) s = mixColumns s
+steps w b c o d end (compensated r) s = s ⊞ sixteen c ((o + d * suc r) % 16)
+steps w b c o d end (closed r) s = s ⊞ roundKey w (suc r)
+steps w b c o d end (uncovered r) s = s ⊞ end
 
 -- point n after the covered block
 unfoldable pub pointAfter : ℕ → Point

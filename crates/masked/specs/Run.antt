@@ -1,26 +1,26 @@
 -- The masked run: what it does to the covered state at each recorded point.
 -- Assumes nothing.
 use mathlib.Core.List.{List}
-use Prim.Native.Nat.{ℕ, suc, _+_}
+use Prim.Native.Nat.{ℕ, suc, _*_}
 use Rattle.aes.specs.State.{at, state, shiftRows, mixColumns}
 use Rattle.aes.specs.Key.{roundKey}
 use Rattle.aes.specs.Record.{Point, block, keyed, boxed, shifted, mixed, compensated, closed, uncovered, points, run, last}
-use Rattle.masks.specs.Mask.{_⊞_, mask, maskedBox, compensation, ending}
+use Rattle.masks.specs.Mask.{_⊞_, label, mask, maskedBox, compensation, ending}
 
--- at offset o over the masks M and the schedule w, ending in a form
-unfoldable pub covered : ℕ → List ℕ → ℕ → List ℕ → Point → List ℕ → List ℕ
-covered form M o w block s = s ⊞ mask M o
-covered form M o w (keyed r) s = s ⊞ roundKey w r
-covered form M o w (boxed r) s = state (λ i. maskedBox M (o + i + r) (at s i))
-covered form M o w (shifted r) s = shiftRows s
-covered form M o w (mixed r) s = mixColumns s
-covered form M o w (compensated r) s = s ⊞ compensation M (o + 1 + r)
-covered form M o w (closed r) s = s ⊞ roundKey w (suc r)
-covered form M o w (uncovered r) s = s ⊞ ending form (mask M (o + suc r))
+-- at offset o over the masks M, whose labels advance by d from round to round, and the schedule w, ending in a form
+unfoldable pub covered : ℕ → List ℕ → ℕ → ℕ → List ℕ → Point → List ℕ → List ℕ
+covered form M o d w block s = s ⊞ mask M o 0
+covered form M o d w (keyed r) s = s ⊞ roundKey w r
+covered form M o d w (boxed r) s = state (λ i. maskedBox M d (label o (d * r) i) (at s i))
+covered form M o d w (shifted r) s = shiftRows s
+covered form M o d w (mixed r) s = mixColumns s
+covered form M o d w (compensated r) s = s ⊞ compensation (mask M o (d * suc r))
+covered form M o d w (closed r) s = s ⊞ roundKey w (suc r)
+covered form M o d w (uncovered r) s = s ⊞ ending form (mask M o (d * suc r))
 
 -- the recorded states of a run of nr rounds, and the block that it ends with
-unfoldable pub maskedRecord : ℕ → ℕ → List ℕ → ℕ → List ℕ → List ℕ → List (List ℕ)
-maskedRecord nr form M o w input = run (covered form M o w) input (points nr)
+unfoldable pub maskedRecord : ℕ → ℕ → List ℕ → ℕ → ℕ → List ℕ → List ℕ → List (List ℕ)
+maskedRecord nr form M o d w input = run (covered form M o d w) input (points nr)
 
-unfoldable pub maskedCipher : ℕ → ℕ → List ℕ → ℕ → List ℕ → List ℕ → List ℕ
-maskedCipher nr form M o w input = last input (maskedRecord nr form M o w input)
+unfoldable pub maskedCipher : ℕ → ℕ → List ℕ → ℕ → ℕ → List ℕ → List ℕ → List ℕ
+maskedCipher nr form M o d w input = last input (maskedRecord nr form M o d w input)

@@ -2,12 +2,12 @@
 // a scratch.
 ghost use mathlib.Core.Path.{_≡_};
 ghost use mathlib.Core.List.{List};
-ghost use Prim.Native.Nat.{ℕ, _+_, _/_, _%_, _<_};
+ghost use Prim.Native.Nat.{ℕ, _+_, _*_, _/_, _%_, _<_};
 ghost use lib.ListN.{length};
 ghost use Rattle.aes.specs.State.{shiftRows, mixColumns};
 ghost use Rattle.aes.specs.Key.{roundKey};
 ghost use Rattle.aes.specs.Record.{bytes};
-ghost use Rattle.masks.specs.Mask.{_⊞_, maskedBoxes, allCompensations};
+ghost use Rattle.masks.specs.Mask.{_⊞_, twice, maskedBoxes, allCompensations};
 ghost use Rattle.masked.specs.Run.{maskedRecord, maskedCipher};
 ghost use Rattle.masked.specs.Lent.{boxedBy, steps, pointAfter};
 
@@ -34,8 +34,8 @@ pub(crate) fn recorded(
     offset: u8,
     states: &mut [u8],
 )
-    requires { ⌜ (length (now w) ≡ 240) × (now boxes ≡ maskedBoxes (masks .0)) × (now compensations ≡ allCompensations (masks .0)) × (length (now states) ≡ 1136) ⌝ }
-    ensures { λ _. ⌜ now (states .exit) ≡ bytes (maskedRecord 14 0 (masks .0) offset (now (w .entry)) (block .0)) ⌝ }
+    requires { ⌜ (length (now w) ≡ 240) × (now boxes ≡ maskedBoxes (masks .0) (masks .1)) × (now compensations ≡ allCompensations (masks .0)) × (length (now states) ≡ 1136) × (masks .2 ≡ twice (masks .0)) ⌝ }
+    ensures { λ _. ⌜ now (states .exit) ≡ bytes (maskedRecord 14 0 (masks .0) offset (masks .1) (now (w .entry)) (block .0)) ⌝ }
 {
     let mut s = cover(block, masks, offset, &mut states[0..16]);
     let mut n = 0;
@@ -60,8 +60,8 @@ pub(crate) fn unrecorded(
     form: u8,
     output: &mut [u8],
 )
-    requires { ⌜ (length (now w) ≡ 240) × (now boxes ≡ maskedBoxes (masks .0)) × (now compensations ≡ allCompensations (masks .0)) × (length (now output) ≡ 16) ⌝ }
-    ensures { λ _. ⌜ now (output .exit) ≡ maskedCipher 14 form (masks .0) offset (now (w .entry)) (block .0) ⌝ }
+    requires { ⌜ (length (now w) ≡ 240) × (now boxes ≡ maskedBoxes (masks .0) (masks .1)) × (now compensations ≡ allCompensations (masks .0)) × (length (now output) ≡ 16) × (masks .2 ≡ twice (masks .0)) ⌝ }
+    ensures { λ _. ⌜ now (output .exit) ≡ maskedCipher 14 form (masks .0) offset (masks .1) (now (w .entry)) (block .0) ⌝ }
 {
     let mut part = [0u8; 16];
     let s = cover(block, masks, offset, &mut part);
@@ -85,8 +85,8 @@ fn point(
     n: usize,
     part: &mut [u8],
 ) -> Covered
-    requires { ⌜ (n < 69) × (s .label .0 < 16) × (s .round .0 ≡ (n + 3) / 5) × (length (now w) ≡ 240) × (now lent ≡ maskedBoxes (masks .0)) × (now compensations ≡ allCompensations (masks .0)) × (length (now part) ≡ 16) ⌝ }
-    ensures { λ t. ⌜ ((o : ℕ) (end : List ℕ) → s .label .0 ≡ (o + s .round .0) % 16 → (t .bytes ≡ steps (now (w .entry)) (now (lent .entry)) (now (compensations .entry)) o end (pointAfter n) (s .bytes)) × (t .label .0 ≡ (o + t .round .0) % 16)) × (t .round .0 ≡ (n + 4) / 5) × (now (part .exit) ≡ t .bytes) ⌝ }
+    requires { ⌜ (n < 69) × (s .label .0 < 16) × (s .round .0 ≡ (n + 3) / 5) × (length (now w) ≡ 240) × (now lent ≡ maskedBoxes (masks .0) (masks .1)) × (now compensations ≡ allCompensations (masks .0)) × (length (now part) ≡ 16) ⌝ }
+    ensures { λ t. ⌜ ((o : ℕ) (end : List ℕ) → s .label .0 ≡ (o + masks .1 * s .round .0) % 16 → (t .bytes ≡ steps (now (w .entry)) (now (lent .entry)) (now (compensations .entry)) o (masks .1) end (pointAfter n) (s .bytes)) × (t .label .0 ≡ (o + masks .1 * t .round .0) % 16)) × (t .round .0 ≡ (n + 4) / 5) × (now (part .exit) ≡ t .bytes) ⌝ }
 {
     match n % 5 {
         0 => add_key(s, w, part),
@@ -105,8 +105,8 @@ fn point(
 // What every round begins with, where nothing is recorded: key, boxes and ShiftRows. It is apart from the recorded points, so that
 // the compiler sees that what the steps write here is never read.
 fn half(s: Covered, w: &[u8], masks: Masks, lent: &[u8; 4096]) -> Covered
-    requires { ⌜ (s .label .0 < 16) × (s .round .0 < 14) × (length (now w) ≡ 240) × (now lent ≡ maskedBoxes (masks .0)) ⌝ }
-    ensures { λ t. ⌜ (t .bytes ≡ shiftRows (boxedBy (now (lent .entry)) (s .label .0) (s .bytes ⊞ roundKey (now (w .entry)) (s .round .0)))) × (t .label .0 ≡ (s .label .0 + 1) % 16) × (t .round .0 ≡ s .round .0 + 1) ⌝ }
+    requires { ⌜ (s .label .0 < 16) × (s .round .0 < 14) × (length (now w) ≡ 240) × (now lent ≡ maskedBoxes (masks .0) (masks .1)) ⌝ }
+    ensures { λ t. ⌜ (t .bytes ≡ shiftRows (boxedBy (now (lent .entry)) (s .label .0) (s .bytes ⊞ roundKey (now (w .entry)) (s .round .0)))) × (t .label .0 ≡ (s .label .0 + masks .1) % 16) × (t .round .0 ≡ s .round .0 + 1) ⌝ }
 {
     let mut part = [0u8; 16];
     let t = add_key(s, w, &mut part);

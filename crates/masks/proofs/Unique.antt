@@ -1,8 +1,10 @@
 -- Uniqueness: whatever the arguments, a promise allows one result, or one content of the lent place.
 -- Assumes nothing.
 use mathlib.Core.Path.{_≡_, refl, sym, _∙_}
+use mathlib.Core.List.{List}
 use Prim.Native.Nat.{ℕ}
-use Rattle.aes.proofs.Unique.{Unique, UniqueWriting}
+use Rattle.aes.specs.declared.reply.Valued.{Valued}
+use Rattle.aes.proofs.Unique.{Unique, UniqueWriting, both}
 use Rattle.masks.specs.declared.label.Label.{Label}
 use Rattle.masks.specs.declared.label.Position.{Position}
 use Rattle.masks.proofs.boxes.made.Reads as made
@@ -11,12 +13,16 @@ use Rattle.masks.proofs.constants.ending.Reads as ending
 use Rattle.masks.proofs.constants.mask.Reads as mask
 use Rattle.masks.proofs.constants.published.Reads as published
 use Rattle.masks.proofs.constants.stored_compensations.Reads as stored-compensations
+use Rattle.masks.proofs.constants.twice.Reads as twice
 use Rattle.masks.proofs.label.Label.make.Reads as make
 use Rattle.masks.proofs.label.Label.next.Reads as next
 use Rattle.masks.proofs.label.Label.over.Reads as over
 use Rattle.masks.proofs.label.Label.read.Reads as read
 use Rattle.masks.proofs.label.Position.listed.Reads as listed
 use Rattle.masks.proofs.label.Position.read.Reads as place
+use Rattle.masks.proofs.sheet.read_sheet.Reads as read-sheet
+use Rattle.masks.proofs.sheet.write_sheet.Reads as write-sheet
+use Rattle.masks.proofs.step.taken.Reads as step-taken
 use Rattle.masks.proofs.store.boxes.Reads as boxes
 
 one-label : (x y : Label) (z : ℕ) → x .0 ≡ z → y .0 ≡ z → x ≡ y
@@ -52,6 +58,9 @@ stored-compensations-unique κs args exit x y p q = p ∙ sym q
 pub boxes-unique : Unique boxes.Post
 boxes-unique κs args exit x y p q = p ∙ sym q
 
+pub twice-unique : Unique twice.Post
+twice-unique κs args exit x y p q = p ∙ sym q
+
 pub mask-unique : Unique mask.Post
 mask-unique κs args exit x y p q = p ∙ sym q
 
@@ -61,5 +70,21 @@ ending-unique κs args exit x y p q = p ∙ sym q
 pub compensations-unique : UniqueWriting compensations.Post (λ κs e. e .1 .0 .now)
 compensations-unique κs args e f x y p q = (refl, p ∙ sym q)
 
-pub made-unique : UniqueWriting made.Post (λ κs e. e .1 .0 .now)
+pub made-unique : UniqueWriting made.Post (λ κs e. e .1 .1 .0 .now)
 made-unique κs args e f x y p q = (refl, p ∙ sym q)
+
+-- where a value stands beside the reply
+valued-beside : (x y : Valued) (a b : List ℕ) (z : ℕ × (ℕ × List ℕ))
+    → _≡_ {A = ℕ × (ℕ × List ℕ)} (x .number, (x .value, a)) z → _≡_ {A = ℕ × (ℕ × List ℕ)} (y .number, (y .value, b)) z → (x ≡ y) × (a ≡ b)
+valued-beside x y a b z p q =
+    let e : _≡_ {A = ℕ × (ℕ × List ℕ)} (x .number, (x .value, a)) (y .number, (y .value, b)) = p ∙ sym q in
+    (λ i. record { number = e i .0; value = e i .1 .0 }, λ i. e i .1 .1)
+
+pub read-sheet-unique : UniqueWriting read-sheet.Post (λ κs e. e .1 .0 .now)
+read-sheet-unique κs args e f x y p q = valued-beside x y _ _ _ p q
+
+pub write-sheet-unique : UniqueWriting write-sheet.Post (λ κs e. e .1 .1 .0 .now)
+write-sheet-unique κs args e f x y p q = both x y _ _ _ p q
+
+pub taken-unique : Unique step-taken.Post
+taken-unique κs args exit x y p q = p ∙ sym q

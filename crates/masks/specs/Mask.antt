@@ -16,20 +16,25 @@ infixl 68 _⊞_
 abbrev pub _⊞_ : List ℕ → List ℕ → List ℕ
 a ⊞ b = addRoundKey a b
 
--- Mask(o) over the masks M: M(o), M(o+1) .. M(o+15) at the bytes 0 to 15
-abbrev pub maskByte : List ℕ → ℕ → ℕ → ℕ
-maskByte M o i = at M ((o + i) % 16)
+-- the label of byte i at offset o, k labels on
+abbrev pub label : ℕ → ℕ → ℕ → ℕ
+label o k i = (o + i + k) % 16
 
-unfoldable pub mask : List ℕ → ℕ → List ℕ
-mask M o = state (maskByte M o)
+-- Mask(o+k) over the masks M: M(o+k), M(o+k+1) .. M(o+k+15) at the bytes 0 to 15
+unfoldable pub mask : List ℕ → ℕ → ℕ → List ℕ
+mask M o k = state (λ i. at M (label o k i))
 
--- masked box j: S(x xor M(j)) xor M(j+1)
-unfoldable pub maskedBox : List ℕ → ℕ → ℕ → ℕ
-maskedBox M j x = sBox (x ⊕ at M (j % 16)) ⊕ at M ((j + 1) % 16)
+-- the masks twice over, so that sixteen of them lie in a row from any label on
+abbrev pub twice : List ℕ → List ℕ
+twice M = table (λ i. at M (i % 16)) 32
 
--- Compensation(o)
-unfoldable pub compensation : List ℕ → ℕ → List ℕ
-compensation M o = mask M o ⊞ mixColumns (shiftRows (mask M o))
+-- masked box j with step d: S(x xor M(j)) xor M(j+d)
+unfoldable pub maskedBox : List ℕ → ℕ → ℕ → ℕ → ℕ
+maskedBox M d j x = sBox (x ⊕ at M (j % 16)) ⊕ at M ((j + d) % 16)
+
+-- Compensation, by the mask that is to lie there
+unfoldable pub compensation : List ℕ → List ℕ
+compensation m = m ⊞ mixColumns (shiftRows m)
 
 -- the last constant, by the mask that covers the finished block: form 0 uncovers it, form 1 leaves the mask there
 unfoldable pub ending : ℕ → List ℕ → List ℕ
@@ -41,9 +46,9 @@ unfoldable pub inRow : (ℕ → List ℕ) → ℕ → List ℕ
 inRow f zero = []
 inRow f (suc n) = inRow f n ++ f n
 
--- the sixteen masked boxes, and Compensation(0) to Compensation(15), as they are stored
-unfoldable pub maskedBoxes : List ℕ → List ℕ
-maskedBoxes M = inRow (λ j. table (maskedBox M j) 256) 16
+-- the sixteen masked boxes with step d, and Compensation(0) to Compensation(15), which depend on no step, as they are stored
+unfoldable pub maskedBoxes : List ℕ → ℕ → List ℕ
+maskedBoxes M d = inRow (λ j. table (maskedBox M d j) 256) 16
 
 unfoldable pub allCompensations : List ℕ → List ℕ
-allCompensations M = inRow (compensation M) 16
+allCompensations M = inRow (λ k. compensation (mask M 0 k)) 16

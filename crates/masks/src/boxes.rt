@@ -10,16 +10,16 @@ use crate::parts::moved;
 use crate::parts::row;
 use aes::tables;
 
-// The box of each label, to the lent place.
-pub fn made(masks: [u8; 16], boxes: &mut [u8; 4096])
-    ensures { λ _. ⌜ now (boxes .exit) ≡ maskedBoxes masks ⌝ }
+// The box of each label, to the lent place: it takes the mask of its label and gives that of the label which is a step on.
+pub fn made(masks: [u8; 16], step: u8, boxes: &mut [u8; 4096])
+    ensures { λ _. ⌜ now (boxes .exit) ≡ maskedBoxes masks step ⌝ }
 {
-    filled(masks, boxes);
+    filled(masks, step, boxes);
 }
 
-fn filled(masks: [u8; 16], boxes: &mut [u8])
+fn filled(masks: [u8; 16], step: u8, boxes: &mut [u8])
     requires { ⌜ length (now boxes) ≡ 4096 ⌝ }
-    ensures { λ _. ⌜ now (boxes .exit) ≡ maskedBoxes masks ⌝ }
+    ensures { λ _. ⌜ now (boxes .exit) ≡ maskedBoxes masks step ⌝ }
 {
     let mut s = [0u8; 4096];
     turned(&tables::sbox(), &mut s);
@@ -28,8 +28,9 @@ fn filled(masks: [u8; 16], boxes: &mut [u8])
     while n < 16 {
         let a = 256 * n;
         let e = a + 256;
-        let m = l.next();
-        fill(&s, masks[l.read()], masks[m.read()], &mut boxes[a..e]);
+        let given = l.next(step);
+        fill(&s, masks[l.read()], masks[given.read()], &mut boxes[a..e]);
+        let m = l.next(1);
         l = m;
         n += 1;
     }

@@ -1,8 +1,9 @@
 // The published masks of document 002, and the constants that are made of masks.
 ghost use mathlib.Core.Path.{_≡_};
-ghost use Prim.Native.Nat.{_<_};
+ghost use Prim.Native.Nat.{_+_, _%_};
 ghost use lib.ListN.{length};
-ghost use Rattle.masks.specs.Mask.{published, mask, compensation, inRow, allCompensations, ending};
+ghost use Rattle.masks.specs.Mask.{published, twice, mask, compensation, inRow, allCompensations, ending};
+ghost use Rattle.aes.specs.State.{at, state};
 ghost use Rattle.aes.specs.Held.{Holds};
 use crate::label::Label;
 use crate::label::Position;
@@ -47,15 +48,28 @@ pub fn stored_compensations() -> [u8; 256]
     COMPENSATIONS
 }
 
-// Mask(l).
-pub fn mask(masks: [u8; 16], l: Label) -> [u8; 16]
-    ensures { λ r. ⌜ r ≡ mask masks (l .0) ⌝ }
+// The masks twice over, so that sixteen of them lie in a row from any label on.
+pub fn twice(masks: [u8; 16]) -> [u8; 32]
+    ensures { λ r. ⌜ r ≡ twice masks ⌝ }
+{
+    let mut r = [0u8; 32];
+    let mut i = 0;
+    while i < 32 {
+        r[i] = masks[i % 16];
+        i += 1;
+    }
+    r
+}
+
+// Mask(l), of masks that lie there twice over.
+pub fn mask(twice: [u8; 32], l: Label) -> [u8; 16]
+    ensures { λ r. ⌜ r ≡ state (λ i. at twice (l .0 % 16 + i)) ⌝ }
 {
     let mut r = [0u8; 16];
     let mut p = Position::FIRST;
     while p.read() < 16 {
         let i = p.read();
-        r[i] = masks[l.over(p).read()];
+        r[i] = twice[l.along(p)];
         let next = p.next();
         p = next;
     }
@@ -88,22 +102,23 @@ pub fn compensations(masks: [u8; 16], r: &mut [u8; 256])
 
 fn first_four(masks: [u8; 16], r: &mut [u8])
     requires { ⌜ length (now r) ≡ 256 ⌝ }
-    ensures { λ _. ⌜ Holds 256 (inRow (compensation masks) 4) (now (r .exit)) ⌝ }
+    ensures { λ _. ⌜ Holds 256 (inRow (λ k. compensation (mask masks 0 k)) 4) (now (r .exit)) ⌝ }
 {
+    let twice = twice(masks);
     let mut l = Label::FIRST;
     let mut n = 0;
     while n < 4 {
-        let c = compensation(masks, l);
+        let c = compensation(twice, l);
         row(&c, 0, 0, r, 16 * n);
-        let m = l.next();
+        let m = l.next(1);
         l = m;
         n += 1;
     }
 }
 
-fn compensation(masks: [u8; 16], l: Label) -> [u8; 16]
-    ensures { λ r. ⌜ r ≡ compensation masks (l .0) ⌝ }
+fn compensation(twice: [u8; 32], l: Label) -> [u8; 16]
+    ensures { λ r. ⌜ r ≡ compensation (state (λ i. at twice (l .0 % 16 + i))) ⌝ }
 {
-    let m = mask(masks, l);
+    let m = mask(twice, l);
     add(m, mix_columns(shift_rows(m)))
 }

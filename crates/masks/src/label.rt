@@ -44,11 +44,11 @@ impl Label {
         Label(offset as usize % 16)
     }
 
-    // The label that follows.
-    pub fn next(self) -> Label
-        ensures { λ l. ⌜ (l .0 ≡ (self .0 + 1) % 16) × (l .0 < 16) ⌝ }
+    // The label that follows, so many on.
+    pub fn next(self, by: u8) -> Label
+        ensures { λ l. ⌜ (l .0 ≡ (self .0 + by) % 16) × (l .0 < 16) ⌝ }
     {
-        Label((self.0 % 16 + 1) % 16)
+        Label((self.0 % 16 + by as usize) % 16)
     }
 
     // The label of the byte at a position, where byte 0 has this one.
@@ -56,6 +56,13 @@ impl Label {
         ensures { λ l. ⌜ (l .0 ≡ (self .0 + p .0) % 16) × (l .0 < 16) ⌝ }
     {
         Label((self.0 % 16 + p.0 % 16) % 16)
+    }
+
+    // Where the mask of that byte lies, if sixteen masks lie there twice over.
+    pub(crate) fn along(self, p: Position) -> usize
+        ensures { λ n. ⌜ n ≡ self .0 % 16 + p .0 % 16 ⌝ }
+    {
+        self.0 % 16 + p.0 % 16
     }
 
     // Which of sixteen masks, boxes or constants has this label.

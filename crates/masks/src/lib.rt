@@ -1,6 +1,11 @@
-// The middle crate: sixteen masks, their labels, and the boxes and constants that are made of them.
+// The middle crate: sixteen masks, their labels and their sheet, and the boxes and constants that are made of them.
 pub mod boxes;
 pub mod constants;
 pub mod label;
 mod parts;
+mod sheet;
+pub mod step;
 pub mod store;
+
+pub use sheet::read_sheet;
+pub use sheet::write_sheet;

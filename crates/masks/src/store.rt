@@ -1,4 +1,4 @@
-// The sixteen masked boxes of the published masks.
+// The sixteen masked boxes of the published masks, with step 1.
 ghost use mathlib.Core.Path.{_≡_};
 ghost use Rattle.masks.specs.Mask.{published, maskedBoxes};
 
@@ -262,7 +262,7 @@ const BOXES: [u8; 4096] = *b"\
 \x76\xab\xd7\xfe\x2b\x67\x01\x30\xc5\x6f\x6b\xf2\x7b\x77\x7c\x63";
 
 pub fn boxes() -> [u8; 4096]
-    ensures { λ r. ⌜ r ≡ maskedBoxes published ⌝ }
+    ensures { λ r. ⌜ r ≡ maskedBoxes published 1 ⌝ }
 {
     BOXES
 }

@@ -40,12 +40,12 @@ examples =
     ∷ (0x57 • 0x13 is 0xfe)
     ∷ (sBox 0x00 is 0x63)
     ∷ (sBox 0x53 is 0xed)
-    ∷ (maskedBox published 0 0x00 is 0x6c)
-    ∷ (maskedBox published 4 0x00 is 0xb1)
-    ∷ (maskedBox published 15 0xff is 0x63)
+    ∷ (maskedBox published 1 0 0x00 is 0x6c)
+    ∷ (maskedBox published 1 4 0x00 is 0xb1)
+    ∷ (maskedBox published 1 15 0xff is 0x63)
     ∷ (mixColumns (column 0x00 0x5c 0xa3 0xff) begins four 0xb8 0xb9 0x1b 0x1a)
-    ∷ (compensation published 0 begins four 0xb8 0xb6 0x2d 0x23)
-    ∷ (shiftRows (mask published 14) begins four 0xf0 0x39 0x95 0xc9)
+    ∷ (compensation (mask published 0 0) begins four 0xb8 0xb6 0x2d 0x23)
+    ∷ (shiftRows (mask published 0 14) begins four 0xf0 0x39 0x95 0xc9)
     ∷ (maskedInverse 0x35 0x35 is 0x35)
     ∷ (maskedInverse 0x00 0x53 is 0x99)
     ∷ []
@@ -55,6 +55,6 @@ unfolding _•_ times xTimes raise inverse fromBits affine sBox shiftRows mixCol
 examples-hold = refl
 
 -- how the last constant that document 002 prints begins at offset 0
-pub printed-begins : take 4 (ending 1 (mask published 14)) ≡ four 0x00 0xc6 0x95 0xc6
+pub printed-begins : take 4 (ending 1 (mask published 0 14)) ≡ four 0x00 0xc6 0x95 0xc6
 unfolding ending published mask shiftRows addRoundKey
 printed-begins = refl

@@ -12,7 +12,7 @@ use Rattle.aes.specs.Byte.{_⊕_, table, below}
 use Rattle.aes.specs.State.{at, state}
 use Rattle.aes.specs.Reply.{_else_, answer}
 use Rattle.aes.proofs.Listed.{table-at}
-use Rattle.masks.specs.Mask.{published, maskByte, mask}
+use Rattle.masks.specs.Mask.{published, label, mask}
 use Rattle.beside.specs.Fitness.{pattern, count, even, balanced, fit, fitnessOf}
 use Rattle.beside.proofs.Even.{not-so}
 use Rattle.theorems.specs.Balance.{Balanced}
@@ -40,11 +40,11 @@ state-fit : (g : ℕ → ℕ) → Balanced g → fitnessOf (state g) ≡ (0, 1)
 unfolding table
 state-fit g b = balanced-fit (state g) refl (balanced-same _ g (table-at g 16) b)
 
-pub turned-fit : (masks : List ℕ) (o : ℕ) → fitnessOf masks .1 ≡ 1 → fitnessOf (mask masks o) ≡ (0, 1)
+pub turned-fit : (masks : List ℕ) (o k : ℕ) → fitnessOf masks .1 ≡ 1 → fitnessOf (mask masks o k) ≡ (0, 1)
 unfolding mask
-turned-fit masks o e =
-    state-fit (maskByte masks o)
-    (balanced-same _ (λ i. at masks ((i + o) % 16)) (λ i h. ap (at masks) (omega arith)) (balanced-turn (at masks) (fit-balanced masks e .1) o))
+turned-fit masks o k e =
+    state-fit (λ i. at masks (label o k i))
+    (balanced-same _ (λ i. at masks ((i + (o + k)) % 16)) (λ i h. ap (at masks) (omega arith)) (balanced-turn (at masks) (fit-balanced masks e .1) (o + k)))
 
 pub added-fit : (masks : List ℕ) (c : ℕ) → fitnessOf masks .1 ≡ 1 → fitnessOf (state (λ i. c ⊕ at masks i)) ≡ (0, 1)
 added-fit masks c e = state-fit (λ i. c ⊕ at masks i) (balanced-xor c (at masks) (fit-balanced masks e .1))

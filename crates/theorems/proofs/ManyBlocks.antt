@@ -1,4 +1,4 @@
--- Many blocks in one masked call: in form 0 each is the block that the rack makes, whatever its offset is.
+-- Many blocks in one masked call: in form 0 each is the block that the rack makes, whatever its offset and the step are.
 -- Assumes nothing.
 use mathlib.Core.Path.{_≡_, refl, ap}
 use mathlib.Core.Bool.{true, false}
@@ -23,16 +23,16 @@ done-same before x y [] h = λ i. (0, h tt i)
 done-same before x y ((true else n) ∷ checks) h = done-same before x y checks (λ t. h (tt, t))
 done-same before x y ((false else n) ∷ checks) h = refl
 
-pub encrypt-blocks-is : (w b out offsets : List ℕ)
-    → encryptBlocksOf w b out offsets 0
-    ≡ answer (blocksChecks w b out offsets 0) out (inRow (λ k. encryptOf w (blockAt k b) (blockAt k out) .1) (length b / 16))
+pub encrypt-blocks-is : (w b out offsets : List ℕ) (d : ℕ)
+    → encryptBlocksOf w b out offsets d 0
+    ≡ answer (blocksChecks w b out offsets d 0) out (inRow (λ k. encryptOf w (blockAt k b) (blockAt k out) .1) (length b / 16))
 unfolding AllHold
-encrypt-blocks-is w b out offsets =
-    done-same out _ _ (blocksChecks w b out offsets 0)
+encrypt-blocks-is w b out offsets d =
+    done-same out _ _ (blocksChecks w b out offsets d 0)
     (λ h.
     let n : length offsets ≡ length b / 16 = eqb→eq (length offsets) (length b / 16) (h .1 .1 .1 .0) in
     let low = under (λ j. leb (at offsets j) 15) (length offsets) (h .1 .1 .1 .1 .0) in
     row-same _ _ (length b / 16)
     (λ k lt.
     ap (λ (r : ℕ × List ℕ). r .1)
-    (encrypt-published-is w (blockAt k b) (blockAt k out) (at offsets k) (leb→le (at offsets k) 15 (low k (rw n lt))))))
+    (encrypt-published-is w (blockAt k b) (blockAt k out) (at offsets k) d (leb→le (at offsets k) 15 (low k (rw n lt))) (h .1 .1 .1 .1 .1 .0))))

@@ -19,5 +19,5 @@ betweenRecorded order written r k = between order (blockAt (5 * r + 1) written) 
 abbrev pub betweenBare : List ℕ → List ℕ → List ℕ → ℕ → ℕ → ℕ
 betweenBare order w input r k = between order (cipherAt w input (keyed r)) (cipherAt w input (boxed r)) k
 
-abbrev pub betweenMasks : List ℕ → List ℕ → ℕ → ℕ → ℕ → ℕ
-betweenMasks order M o r k = between order (maskAt M o (keyed r)) (maskAt M o (boxed r)) k
+abbrev pub betweenMasks : List ℕ → List ℕ → ℕ → ℕ → ℕ → ℕ → ℕ
+betweenMasks order M o d r k = between order (maskAt M o d (keyed r)) (maskAt M o d (boxed r)) k

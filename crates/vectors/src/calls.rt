@@ -1,6 +1,8 @@
 // The calls of the plain engine, held to what a vector says. A reply other than 0 is a difference.
 use aes::reply::DONE;
 use check::same;
+use lines::vector::Vector;
+use lines::vector::same_block;
 
 pub enum Call {
     Encrypt,
@@ -9,15 +11,12 @@ pub enum Call {
 
 // Whether so many calls, each on the output of the one before, lead from the one block to the other: from the plain block to
 // the cipher block, or back.
-pub fn leads(
-    call: Call,
-    times: usize,
-    key: &[u8; 32],
-    plain: &[u8; 16],
-    cipher: &[u8; 16],
-) -> bool {
+pub fn leads(call: Call, times: usize, v: Vector) -> bool {
+    let key = v.key;
+    let plain = v.plain;
+    let cipher = v.cipher;
     let mut schedule = [0u8; 240];
-    if aes::expand_key(key, &mut schedule) != DONE {
+    if aes::expand_key(&key, &mut schedule) != DONE {
         return false;
     }
     match call {
@@ -26,8 +25,8 @@ pub fn leads(
     }
 }
 
-fn chain(call: Call, times: usize, schedule: &[u8; 240], start: &[u8; 16], end: &[u8; 16]) -> bool {
-    let mut block = *start;
+fn chain(call: Call, times: usize, schedule: &[u8; 240], start: [u8; 16], end: [u8; 16]) -> bool {
+    let mut block = start;
     let mut i = 0;
     while i < times {
         let mut output = [0u8; 16];
@@ -37,7 +36,7 @@ fn chain(call: Call, times: usize, schedule: &[u8; 240], start: &[u8; 16], end: 
         block = output;
         i += 1;
     }
-    same_block(&block, end)
+    same_block(block, end)
 }
 
 fn answer(call: Call, schedule: &[u8; 240], input: &[u8; 16], output: &mut [u8; 16]) -> u8 {
@@ -45,10 +44,6 @@ fn answer(call: Call, schedule: &[u8; 240], input: &[u8; 16], output: &mut [u8; 
         Call::Encrypt => aes::encrypt(schedule, input, output),
         Call::Decrypt => aes::decrypt(schedule, input, output),
     }
-}
-
-pub fn same_block(a: &[u8; 16], b: &[u8; 16]) -> bool {
-    same(a, b)
 }
 
 // Whether the key expands to the schedule.

@@ -1,21 +1,19 @@
-// The sources: a function for each kind of line reads it, runs the vector, counts, and answers what is wrong with the line.
+// The sources: a function for each kind of line reads it, runs the vector, counts, and answers whether the line could be read.
 use crate::c3;
 use crate::calls::Call;
 use crate::calls::expands;
 use crate::calls::leads;
-use crate::counts;
-use crate::counts::CELLS;
-use crate::counts::count;
-use crate::fault;
-use crate::fault::either;
-use crate::masked_calls;
-use crate::masks::Masks;
-use crate::text::place_of;
-use crate::text::read_field;
+use crate::table;
+use lines::counts::CELLS;
+use lines::counts::count;
+use lines::text::is_header;
+use lines::text::part;
+use lines::text::read_hex;
+use lines::text::source_of;
+use lines::vector;
+use lines::vector::Vector;
 
-// A source is the place of its header among all headers; the last number stands for none of them.
-pub const ECB: usize = 0;
-
+// A source is the place of its header among all headers; this number stands for none of them.
 pub const UNKNOWN: usize = 5;
 
 // What is run of a key and two blocks.
@@ -25,88 +23,72 @@ enum Kind {
     DecryptedChain,
 }
 
-pub fn source_of(header: &[u8]) -> usize {
+// The source of the first line of a text, below one of another source.
+pub fn source(text: &[u8], above: usize) -> usize {
     let headers = b"\
 # ecb
 # key expansion
 # rounds
 # chain encrypt
 # chain decrypt";
-    place_of(header, headers, UNKNOWN)
+    source_of(text, above, headers, UNKNOWN)
 }
 
-pub fn run(line: &[u8], source: usize, counts: &mut [u64; CELLS]) -> u8 {
+// Runs the first line of a text, and answers whether it could be read.
+pub fn run(text: &[u8], source: usize, counts: &mut [u64; CELLS]) -> bool {
+    let line = part(text, 0, b'\n');
+    if is_header(line) {
+        return source != UNKNOWN;
+    }
     match source {
-        ECB => blocks(line, Kind::Ecb, counts),
+        0 => blocks(line, Kind::Ecb, counts),
         1 => key_expansion(line, counts),
         2 => c3::state(line, counts),
         3 => blocks(line, Kind::EncryptedChain, counts),
         4 => blocks(line, Kind::DecryptedChain, counts),
-        _ => fault::SOURCE,
+        _ => false,
     }
 }
 
-fn blocks(line: &[u8], kind: Kind, counts: &mut [u64; CELLS]) -> u8 {
-    let mut key = [0u8; 32];
-    let mut plain = [0u8; 16];
-    let mut cipher = [0u8; 16];
-    let fault = read_blocks(line, &mut key, &mut plain, &mut cipher);
-    if fault == fault::NONE {
+fn blocks(line: &[u8], kind: Kind, counts: &mut [u64; CELLS]) -> bool {
+    let v = vector::read(line);
+    if v.read {
         match kind {
-            Kind::Ecb => ecb(&key, &plain, &cipher, counts),
-            Kind::EncryptedChain => encrypted_chain(&key, &plain, &cipher, counts),
-            Kind::DecryptedChain => decrypted_chain(&key, &plain, &cipher, counts),
+            Kind::Ecb => ecb(v, counts),
+            Kind::EncryptedChain => {
+                count(
+                    counts,
+                    table::CHAINS_ENCRYPTED,
+                    leads(Call::Encrypt, 1000, v),
+                )
+            }
+            Kind::DecryptedChain => {
+                count(
+                    counts,
+                    table::CHAINS_DECRYPTED,
+                    leads(Call::Decrypt, 1000, v),
+                )
+            }
         }
     }
-    fault
+    v.read
 }
 
-// Reads a key, a plain block and a cipher block, and answers what is wrong.
-pub fn read_blocks(
-    line: &[u8],
-    key: &mut [u8; 32],
-    plain: &mut [u8; 16],
-    cipher: &mut [u8; 16],
-) -> u8 {
-    let first = read_field(line, 0, 2, key);
-    let second = read_field(line, 1, 2, plain);
-    let third = read_field(line, 2, 2, cipher);
-    either(first, either(second, third))
-}
-
-// Both ways, and by the masked engine.
-fn ecb(key: &[u8; 32], plain: &[u8; 16], cipher: &[u8; 16], counts: &mut [u64; CELLS]) {
-    let encrypted = leads(Call::Encrypt, 1, key, plain, cipher);
-    count(counts, counts::ECB_ENCRYPTED, encrypted);
-    let decrypted = leads(Call::Decrypt, 1, key, plain, cipher);
-    count(counts, counts::ECB_DECRYPTED, decrypted);
-    masked_calls::at_all_offsets(key, plain, cipher, counts);
-}
-
-// By either engine.
-fn encrypted_chain(key: &[u8; 32], plain: &[u8; 16], cipher: &[u8; 16], counts: &mut [u64; CELLS]) {
-    let encrypted = leads(Call::Encrypt, 1000, key, plain, cipher);
-    count(counts, counts::CHAINS_ENCRYPTED, encrypted);
-    let published = masked_calls::leads(Masks::Published, key, plain, cipher);
-    count(counts, counts::PUBLISHED_CHAINS, published);
-    let other = masked_calls::leads(Masks::Other, key, plain, cipher);
-    count(counts, counts::OTHER_CHAINS, other);
-}
-
-fn decrypted_chain(key: &[u8; 32], plain: &[u8; 16], cipher: &[u8; 16], counts: &mut [u64; CELLS]) {
-    let decrypted = leads(Call::Decrypt, 1000, key, plain, cipher);
-    count(counts, counts::CHAINS_DECRYPTED, decrypted);
+// Both ways.
+fn ecb(v: Vector, counts: &mut [u64; CELLS]) {
+    count(counts, table::ECB_ENCRYPTED, leads(Call::Encrypt, 1, v));
+    count(counts, table::ECB_DECRYPTED, leads(Call::Decrypt, 1, v));
 }
 
 // A key and its schedule.
-fn key_expansion(line: &[u8], counts: &mut [u64; CELLS]) -> u8 {
+fn key_expansion(line: &[u8], counts: &mut [u64; CELLS]) -> bool {
     let mut key = [0u8; 32];
     let mut schedule = [0u8; 240];
-    let first = read_field(line, 0, 1, &mut key);
-    let second = read_field(line, 1, 1, &mut schedule);
-    let fault = either(first, second);
-    if fault == fault::NONE {
-        count(counts, counts::KEY_EXPANSION, expands(&key, &schedule));
+    let first = read_hex(part(line, 0, b' '), &mut key);
+    let second = read_hex(part(line, 1, b' '), &mut schedule);
+    let read = first & second & (line.len() == 545);
+    if read {
+        count(counts, table::KEY_EXPANSION, expands(&key, &schedule));
     }
-    fault
+    read
 }

@@ -1,6 +1,8 @@
-// Masked encryption of one block: with the published masks, from the stored boxes, and with any sixteen masks.
+// Masked encryption of one block: with the published masks, from the stored boxes where the step is 1, and with any sixteen masks.
 ghost use mathlib.Core.Path.{_≡_};
-ghost use Rattle.masked.specs.Calls.{encryptPublishedOf, encryptMaskedOf, checks, refusal};
+ghost use Rattle.aes.specs.Reply.{refusal};
+ghost use Rattle.masked.specs.Calls.{encryptPublishedOf, encryptMaskedOf, checks};
+use super::chosen;
 use super::lent::Block;
 use super::lent::Masks;
 use crate::run::unrecorded;
@@ -14,17 +16,19 @@ pub fn encrypt_published(
     input: &[u8],
     output: &mut [u8],
     offset: u8,
+    step: u8,
     form: u8,
 ) -> u8
-    ensures { λ r. ⌜ (r, now (output .exit)) ≡ encryptPublishedOf (now (schedule .entry)) (now (input .entry)) (now (output .entry)) offset form ⌝ }
+    ensures { λ r. ⌜ (r, now (output .exit)) ≡ encryptPublishedOf (now (schedule .entry)) (now (input .entry)) (now (output .entry)) offset step form ⌝ }
 {
     // No masks are lent: the input, of which the same length is asked, stands for them.
-    let refusal = refusal(schedule, input, output, input, offset, form);
+    let refusal = refusal(schedule, input, output, input, offset, step, form);
     if refusal != reply::DONE {
         return refusal;
     }
-    let masks = Masks::published();
-    let boxes = store::boxes();
+    let masks = Masks::published(step);
+    let mut boxes = store::boxes();
+    masks.stepped(&mut boxes);
     let compensations = constants::stored_compensations();
     unrecorded(
         Block::lent(input),
@@ -46,15 +50,16 @@ pub fn encrypt_masked(
     output: &mut [u8],
     masks: &[u8],
     offset: u8,
+    step: u8,
     form: u8,
 ) -> u8
-    ensures { λ r. ⌜ (r, now (output .exit)) ≡ encryptMaskedOf (now (schedule .entry)) (now (input .entry)) (now (output .entry)) (now (masks .entry)) offset form ⌝ }
+    ensures { λ r. ⌜ (r, now (output .exit)) ≡ encryptMaskedOf (now (schedule .entry)) (now (input .entry)) (now (output .entry)) (now (masks .entry)) offset step form ⌝ }
 {
-    let refusal = refusal(schedule, input, output, masks, offset, form);
+    let refusal = refusal(schedule, input, output, masks, offset, step, form);
     if refusal != reply::DONE {
         return refusal;
     }
-    let masks = Masks::lent(masks);
+    let masks = Masks::lent(masks, step);
     let mut boxes = [0u8; 4096];
     masks.boxes(&mut boxes);
     let mut compensations = [0u8; 256];
@@ -79,9 +84,10 @@ pub(crate) fn refusal(
     output: &[u8],
     masks: &[u8],
     offset: u8,
+    step: u8,
     form: u8,
 ) -> u8
-    ensures { λ r. ⌜ r ≡ refusal (checks (now (schedule .entry)) (now (input .entry)) (now (output .entry)) (now (masks .entry)) offset form) ⌝ }
+    ensures { λ r. ⌜ r ≡ refusal (checks (now (schedule .entry)) (now (input .entry)) (now (output .entry)) (now (masks .entry)) offset step form) ⌝ }
 {
     if schedule.len() != 240 {
         return reply::SCHEDULE_LENGTH;
@@ -98,8 +104,5 @@ pub(crate) fn refusal(
     if 15 < offset {
         return reply::OFFSET_RANGE;
     }
-    if 1 < form {
-        return reply::FORM_UNKNOWN;
-    }
-    reply::DONE
+    chosen::refusal(step, form)
 }

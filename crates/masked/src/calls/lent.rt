@@ -1,8 +1,9 @@
 // What a masked call is lent, each a type that the calls alone make: the block, and the masks. A run has none but those that it is
 // given, and is told nothing of them but what is made here.
 ghost use mathlib.Core.Path.{_≡_};
+ghost use Prim.Native.Nat.{_+_, _%_, _<_};
 ghost use lib.ListN.{length};
-ghost use Rattle.masks.specs.Mask.{published, _⊞_, mask, maskedBoxes, allCompensations};
+ghost use Rattle.masks.specs.Mask.{twice, published, _⊞_, mask, maskedBoxes, allCompensations};
 use crate::blocks::sixteen;
 use aes::add;
 use masks::boxes;
@@ -12,8 +13,8 @@ use masks::label::Label;
 // A block, bare.
 pub(crate) struct Block([u8; 16]);
 
-// Sixteen masks.
-pub(crate) struct Masks([u8; 16]);
+// Sixteen masks, the step by which their labels advance, and the masks twice over, for Mask(l).
+pub(crate) struct Masks([u8; 16], u8, [u8; 32]);
 
 impl Block {
     pub(super) fn lent(input: &[u8]) -> Block
@@ -25,7 +26,8 @@ impl Block {
 
     // Under Mask(l).
     pub(crate) fn under(self, masks: Masks, l: Label) -> [u8; 16]
-        ensures { λ r. ⌜ r ≡ self .0 ⊞ mask (masks .0) (l .0) ⌝ }
+        requires { ⌜ masks .2 ≡ twice (masks .0) ⌝ }
+        ensures { λ r. ⌜ r ≡ self .0 ⊞ mask (masks .0) 0 (l .0) ⌝ }
     {
         let b = self.0;
         let m = masks.mask(l);
@@ -34,32 +36,53 @@ impl Block {
 }
 
 impl Masks {
-    pub(super) fn published() -> Masks
-        ensures { λ m. ⌜ m .0 ≡ published ⌝ }
+    pub(super) fn published(step: u8) -> Masks
+        ensures { λ m. ⌜ (m .0 ≡ published) × (m .1 ≡ step) × (m .2 ≡ twice (m .0)) ⌝ }
     {
-        Masks(constants::published())
+        let m = constants::published();
+        Masks(m, step, constants::twice(m))
     }
 
-    pub(super) fn lent(masks: &[u8]) -> Masks
+    pub(super) fn lent(masks: &[u8], step: u8) -> Masks
         requires { ⌜ length (now masks) ≡ 16 ⌝ }
-        ensures { λ m. ⌜ m .0 ≡ now (masks .entry) ⌝ }
+        ensures { λ m. ⌜ (m .0 ≡ now (masks .entry)) × (m .1 ≡ step) × (m .2 ≡ twice (m .0)) ⌝ }
     {
-        Masks(sixteen(masks, 0))
+        let m = sixteen(masks, 0);
+        Masks(m, step, constants::twice(m))
     }
 
     // Mask(l).
     pub(crate) fn mask(self, l: Label) -> [u8; 16]
-        ensures { λ r. ⌜ r ≡ mask (self .0) (l .0) ⌝ }
+        requires { ⌜ self .2 ≡ twice (self .0) ⌝ }
+        ensures { λ r. ⌜ r ≡ mask (self .0) 0 (l .0) ⌝ }
     {
-        let m = self.0;
+        let m = self.2;
         constants::mask(m, l)
     }
 
+    // The label that is a step on.
+    pub(crate) fn advanced(self, l: Label) -> Label
+        ensures { λ m. ⌜ (m .0 ≡ (l .0 + self .1) % 16) × (m .0 < 16) ⌝ }
+    {
+        l.next(self.1)
+    }
+
+    // The boxes with their step.
     pub(crate) fn boxes(self, r: &mut [u8; 4096])
-        ensures { λ _. ⌜ now (r .exit) ≡ maskedBoxes (self .0) ⌝ }
+        ensures { λ _. ⌜ now (r .exit) ≡ maskedBoxes (self .0) (self .1) ⌝ }
     {
         let m = self.0;
-        boxes::made(m, r);
+        boxes::made(m, self.1, r);
+    }
+
+    // The same, over those with step 1, which stay where that is the step.
+    pub(crate) fn stepped(self, r: &mut [u8; 4096])
+        requires { ⌜ now r ≡ maskedBoxes (self .0) 1 ⌝ }
+        ensures { λ _. ⌜ now (r .exit) ≡ maskedBoxes (self .0) (self .1) ⌝ }
+    {
+        if self.1 != 1 {
+            self.boxes(r);
+        }
     }
 
     pub(crate) fn compensations(self, r: &mut [u8; 256])

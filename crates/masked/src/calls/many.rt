@@ -5,8 +5,9 @@ ghost use mathlib.Core.List.{[], _∷_};
 ghost use Prim.Native.Nat.{_<_};
 ghost use lib.ListN.{length};
 ghost use Rattle.aes.specs.State.{at};
-ghost use Rattle.aes.specs.Reply.{areOffsets, isForm};
-ghost use Rattle.masked.specs.Calls.{encryptBlocksOf, blocksChecks, refusal};
+ghost use Rattle.aes.specs.Reply.{areOffsets, isStep, isForm, refusal};
+ghost use Rattle.masked.specs.Calls.{encryptBlocksOf, blocksChecks};
+use super::chosen;
 use super::lent::Block;
 use super::lent::Masks;
 use crate::run::unrecorded;
@@ -20,16 +21,18 @@ pub fn encrypt_blocks(
     input: &[u8],
     output: &mut [u8],
     offsets: &[u8],
+    step: u8,
     form: u8,
 ) -> u8
-    ensures { λ r. ⌜ (r, now (output .exit)) ≡ encryptBlocksOf (now (schedule .entry)) (now (input .entry)) (now (output .entry)) (now (offsets .entry)) form ⌝ }
+    ensures { λ r. ⌜ (r, now (output .exit)) ≡ encryptBlocksOf (now (schedule .entry)) (now (input .entry)) (now (output .entry)) (now (offsets .entry)) step form ⌝ }
 {
-    let refusal = refusal(schedule, input, output, offsets, form);
+    let refusal = refusal(schedule, input, output, offsets, step, form);
     if refusal != reply::DONE {
         return refusal;
     }
-    let masks = Masks::published();
-    let boxes = store::boxes();
+    let masks = Masks::published(step);
+    let mut boxes = store::boxes();
+    masks.stepped(&mut boxes);
     let compensations = constants::stored_compensations();
     let mut k = 0;
     while k < offsets.len() {
@@ -51,8 +54,8 @@ pub fn encrypt_blocks(
 }
 
 // The number of the first check that fails, in their order.
-fn refusal(schedule: &[u8], input: &[u8], output: &[u8], offsets: &[u8], form: u8) -> u8
-    ensures { λ r. ⌜ r ≡ refusal (blocksChecks (now (schedule .entry)) (now (input .entry)) (now (output .entry)) (now (offsets .entry)) form) ⌝ }
+fn refusal(schedule: &[u8], input: &[u8], output: &[u8], offsets: &[u8], step: u8, form: u8) -> u8
+    ensures { λ r. ⌜ r ≡ refusal (blocksChecks (now (schedule .entry)) (now (input .entry)) (now (output .entry)) (now (offsets .entry)) step form) ⌝ }
 {
     if schedule.len() != 240 {
         return reply::SCHEDULE_LENGTH;
@@ -69,12 +72,12 @@ fn refusal(schedule: &[u8], input: &[u8], output: &[u8], offsets: &[u8], form: u
     if offsets.len() != input.len() / 16 {
         return reply::OFFSETS_LENGTH;
     }
-    later_refusal(offsets, form)
+    later_refusal(offsets, step, form)
 }
 
 // The same of the checks that read more than a length.
-fn later_refusal(offsets: &[u8], form: u8) -> u8
-    ensures { λ r. ⌜ r ≡ refusal (areOffsets (now (offsets .entry)) ∷ isForm form ∷ []) ⌝ }
+fn later_refusal(offsets: &[u8], step: u8, form: u8) -> u8
+    ensures { λ r. ⌜ r ≡ refusal (areOffsets (now (offsets .entry)) ∷ isStep step ∷ isForm form ∷ []) ⌝ }
 {
     let mut k = 0;
     while k < offsets.len() {
@@ -83,10 +86,7 @@ fn later_refusal(offsets: &[u8], form: u8) -> u8
         }
         k += 1;
     }
-    if 1 < form {
-        return reply::FORM_UNKNOWN;
-    }
-    reply::DONE
+    chosen::refusal(step, form)
 }
 
 // The offset of a block.

@@ -7,7 +7,7 @@ ghost use lib.Dec.{eqb};
 ghost use lib.ListN.{length};
 ghost use Rattle.aes.specs.State.{shiftRows, mixColumns};
 ghost use Rattle.aes.specs.Key.{roundKey};
-ghost use Rattle.masks.specs.Mask.{_⊞_, mask, maskedBoxes, allCompensations, ending};
+ghost use Rattle.masks.specs.Mask.{_⊞_, twice, mask, maskedBoxes, allCompensations, ending};
 ghost use Rattle.masked.specs.Lent.{boxedBy, sixteen};
 use crate::blocks::keep;
 use crate::blocks::sixteen;
@@ -51,8 +51,8 @@ impl Covered {
 }
 
 pub(crate) fn cover(block: Block, masks: Masks, offset: u8, part: &mut [u8]) -> Covered
-    requires { ⌜ length (now part) ≡ 16 ⌝ }
-    ensures { λ t. ⌜ (t .bytes ≡ block .0 ⊞ mask (masks .0) (offset % 16)) × (t .label .0 ≡ offset % 16) × (t .round .0 ≡ 0) × (now (part .exit) ≡ t .bytes) ⌝ }
+    requires { ⌜ (length (now part) ≡ 16) × (masks .2 ≡ twice (masks .0)) ⌝ }
+    ensures { λ t. ⌜ (t .bytes ≡ block .0 ⊞ mask (masks .0) 0 (offset % 16)) × (t .label .0 ≡ offset % 16) × (t .round .0 ≡ 0) × (now (part .exit) ≡ t .bytes) ⌝ }
 {
     let l = Label::make(offset);
     Covered::kept(l, Round::FIRST, block.under(masks, l), part)
@@ -67,15 +67,15 @@ pub(crate) fn add_key(s: Covered, w: &[u8], part: &mut [u8]) -> Covered
     Covered::kept(s.label, r, add(b, sixteen(w, r.read())), part)
 }
 
-// Byte i by the box over it. The boxes are those of the masks, which are named for that alone.
+// Byte i by the box over it. The boxes are those of the masks, by whose step the label then advances.
 pub(crate) fn boxes(s: Covered, masks: Masks, boxes: &[u8; 4096], part: &mut [u8]) -> Covered
-    requires { ⌜ (now boxes ≡ maskedBoxes (masks .0)) × (s .label .0 < 16) × (s .round .0 < 14) × (length (now part) ≡ 16) ⌝ }
-    ensures { λ t. ⌜ (t .bytes ≡ boxedBy (now (boxes .entry)) (s .label .0) (s .bytes)) × (t .label .0 ≡ (s .label .0 + 1) % 16) × (t .round .0 ≡ s .round .0 + 1) × (now (part .exit) ≡ t .bytes) ⌝ }
+    requires { ⌜ (now boxes ≡ maskedBoxes (masks .0) (masks .1)) × (s .label .0 < 16) × (s .round .0 < 14) × (length (now part) ≡ 16) ⌝ }
+    ensures { λ t. ⌜ (t .bytes ≡ boxedBy (now (boxes .entry)) (s .label .0) (s .bytes)) × (t .label .0 ≡ (s .label .0 + masks .1) % 16) × (t .round .0 ≡ s .round .0 + 1) × (now (part .exit) ≡ t .bytes) ⌝ }
 {
     let b = s.bytes;
     let l = s.label;
     let r = s.round;
-    let m = l.next();
+    let m = masks.advanced(l);
     let n = r.next();
     Covered::kept(m, n, answers(b, boxes, l), part)
 }
@@ -129,8 +129,8 @@ pub(crate) fn compensate(
 
 // After the last round alone.
 pub(crate) fn uncover(s: Covered, masks: Masks, form: u8, part: &mut [u8])
-    requires { ⌜ (s .label .0 < 16) × (s .round .0 ≡ 14) × (length (now part) ≡ 16) ⌝ }
-    ensures { λ _. ⌜ now (part .exit) ≡ s .bytes ⊞ ending form (mask (masks .0) (s .label .0)) ⌝ }
+    requires { ⌜ (s .label .0 < 16) × (s .round .0 ≡ 14) × (length (now part) ≡ 16) × (masks .2 ≡ twice (masks .0)) ⌝ }
+    ensures { λ _. ⌜ now (part .exit) ≡ s .bytes ⊞ ending form (mask (masks .0) 0 (s .label .0)) ⌝ }
 {
     let b = s.bytes;
     keep(add(b, ending(form, masks.mask(s.label))), part);

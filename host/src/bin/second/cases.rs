@@ -4,27 +4,31 @@ use crate::cipher::{expand_key, Boxes};
 use crate::lent::{Buffer, Lent};
 use crate::masked::PUBLISHED;
 use crate::random::Random;
+use crate::replies::{takes_many, Cause};
 
 /// The lengths that calls take: each is the wrong one for another buffer.
-const LENGTHS: [usize; 5] = [16, 21, 32, 240, 1136];
+const LENGTHS: [usize; 6] = [16, 21, 22, 32, 240, 1136];
 
-/// Broken has the reply numbers whose causes are wanted.
-pub fn draw(random: &mut Random, boxes: &Boxes, broken: &[u8], many: bool) -> Lent {
-    let wants = |number: u8| broken.contains(&number);
-    let key = bytes(random, 32, wants(1));
-    let schedule = schedule(random, boxes, wants(2));
-    let input = if many { blocks(random, wants(3), wants(6)) } else { bytes(random, 16, wants(3)) };
-    let output = bytes(random, if many { input.len() } else { 16 }, wants(4));
-    let offsets = offsets(random, input.len() / 16, wants(14), wants(6));
-    let masks = if wants(5) { bytes(random, 16, true) } else { masks(random).to_vec() };
-    let states = bytes(random, 1136, wants(8));
-    let sheet = sheet(random, wants(11), wants(12), wants(13));
-    let blank = random.bytes(sheet.len());
+/// For a call that has such an order of refusals. Broken has the causes that are wanted.
+pub fn draw(random: &mut Random, boxes: &Boxes, order: &[Cause], broken: &[Cause]) -> Lent {
+    let wants = |cause: Cause| broken.contains(&cause);
+    let many = takes_many(order);
+    let key = bytes(random, 32, wants(Cause::Key));
+    let schedule = schedule(random, boxes, wants(Cause::Schedule));
+    let input =
+        if many { blocks(random, wants(Cause::Blocks), wants(Cause::AnyOffset)) } else { bytes(random, 16, wants(Cause::Input)) };
+    let output = bytes(random, if many { input.len() } else { 16 }, wants(Cause::Output) || wants(Cause::Room));
+    let offsets = offsets(random, input.len() / 16, wants(Cause::OffsetCount), wants(Cause::AnyOffset));
+    let masks = if wants(Cause::Masks) { bytes(random, 16, true) } else { masks(random).to_vec() };
+    let states = bytes(random, 1136, wants(Cause::States));
+    let step = step(random, wants(Cause::Step));
+    let sheet = sheet(random, wants);
+    let blank = bytes(random, if step == 1 { 21 } else { 22 }, wants(Cause::BlankLength));
     let [key, schedule, input, output, masks, states, sheet, blank, offsets] =
         [key, schedule, input, output, masks, states, sheet, blank, offsets].map(|body| Buffer::new(random, &body));
-    let offset = if wants(6) { 16 + random.below(240) } else { random.below(16) } as u8;
-    let form = if wants(7) { 2 + random.below(254) } else { random.below(2) } as u8;
-    Lent { key, schedule, input, output, masks, states, sheet, blank, offsets, offset, form }
+    let offset = if wants(Cause::Offset) { 16 + random.below(240) } else { random.below(16) } as u8;
+    let form = if wants(Cause::Form) { 2 + random.below(254) } else { random.below(2) } as u8;
+    Lent { key, schedule, input, output, masks, states, sheet, blank, offsets, offset, step, form }
 }
 
 /// Empty, one off, twice as long, a length that another buffer has, or any.
@@ -88,6 +92,15 @@ fn offsets(random: &mut Random, blocks: usize, length: bool, range: bool) -> Vec
     offsets
 }
 
+/// Often 1, for which the library has its boxes stored; wrong, 0, 2, 3 or above 15.
+fn step(random: &mut Random, wrong: bool) -> u8 {
+    match (wrong, random.below(4)) {
+        (true, n) => [0, 2, 3, 16 + random.below(240) as u8][n],
+        (false, 0) => 1,
+        (false, _) => 4 + random.below(12) as u8,
+    }
+}
+
 /// That of a key, or any bytes.
 fn schedule(random: &mut Random, boxes: &Boxes, wrong: bool) -> Vec<u8> {
     if !wrong && random.below(4) == 0 {
@@ -132,20 +145,36 @@ fn any_two_even(random: &mut Random) -> [u8; 16] {
     fit(random).map(|mask| summed(mask).rotate_left(turned))
 }
 
-/// "MSK", version 1 and sixteen masks, damaged as asked.
-fn sheet(random: &mut Random, length: bool, mark: bool, version: bool) -> Vec<u8> {
-    let mut sheet = b"MSK\x00\x01".to_vec();
-    sheet.extend(masks(random));
-    if mark {
+/// "MSK", version 1 or 2, sixteen masks and in version 2 a step, damaged as asked. A wrong step is there also where the version or
+/// the length is wrong, unless the sheet ends before it.
+fn sheet(random: &mut Random, wants: impl Fn(Cause) -> bool) -> Vec<u8> {
+    let version = if wants(Cause::SheetStep) { 2 } else { 1 + random.below(2) };
+    let mut sheet = [b"MSK\x00", &[version as u8][..], &masks(random)].concat();
+    if version == 2 {
+        sheet.push(sheet_step(random, wants(Cause::SheetStep)));
+    }
+    let right = sheet.len();
+    if wants(Cause::Mark) {
         sheet[random.below(3)] ^= 1 + random.below(255) as u8;
     }
-    while version && sheet[3..5] == [0, 1] {
-        let versions = [[0, 0], [0, 2], [1, 0], [1, 1], [random.byte(), random.byte()]];
+    while wants(Cause::Version) && (sheet[3..5] == [0, 1] || sheet[3..5] == [0, 2]) {
+        let versions = [[0, 0], [0, 3], [1, 0], [1, 1], [1, 2], [2, 0], [random.byte(), random.byte()]];
         sheet[3..5].copy_from_slice(&versions[random.below(versions.len())]);
     }
-    if length {
-        let filler = random.byte();
-        sheet.resize(wrong_length(random, 21), filler);
+    if wants(Cause::SheetLength) {
+        let (length, filler) = (wrong_length(random, right).max(5), random.byte());
+        sheet.resize(length, filler);
+    }
+    if wants(Cause::SheetHead) {
+        sheet.truncate(random.below(5));
     }
     sheet
+}
+
+/// The step of version 2; wrong, 0 to 3 or above 15.
+fn sheet_step(random: &mut Random, wrong: bool) -> u8 {
+    match (wrong, random.below(5)) {
+        (true, n) => [0, 1, 2, 3, 16 + random.below(240) as u8][n],
+        (false, _) => 4 + random.below(12) as u8,
+    }
 }

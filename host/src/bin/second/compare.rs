@@ -5,39 +5,55 @@ use crate::cases::draw;
 use crate::cipher::Boxes;
 use crate::lent::Lent;
 use crate::random::Random;
-use crate::replies::{reply, takes_many};
+use crate::replies::{reply, Cause};
 use crate::report::Tally;
 use crate::table::Call;
 
 /// How often every set of a call's refusals is met at the start: so each alone, each pair, and none.
 const TIMES_EACH: usize = 8;
 
-/// Spoiled expectations must all be found to differ.
-pub fn compare(call: &Call, boxes: &Boxes, random: &mut Random, cases: usize, spoiled: bool) -> Tally {
-    let mut tally = Tally::default();
-    for case in 0..cases {
-        let broken = broken(call, random, case);
-        let mut lent = draw(random, boxes, &broken, takes_many(call.refusals));
+/// The cases of one call so far. Spoiled expectations must all be found to differ.
+pub struct Trial<'a> {
+    pub call: &'a Call,
+    pub boxes: &'a Boxes,
+    pub spoiled: bool,
+    pub tally: Tally,
+}
+
+impl Trial<'_> {
+    /// Compares one case, and gives the number that is expected of it.
+    pub fn case(&mut self, random: &mut Random, mut lent: Lent) -> u8 {
         let mut expected = lent.clone();
-        let mut answer = answer(call, boxes, &mut expected);
-        assert_eq!(answer.number, broken.first().copied().unwrap_or(0), "drawn as asked");
-        if spoiled {
+        let mut answer = answer(self.call, self.boxes, &mut expected);
+        let number = answer.number;
+        if self.spoiled {
             spoil(random, &mut answer, &mut expected);
         }
-        let given = (call.library)(&mut lent);
+        let numbers = format!("offset {}, step {}, form {}", lent.offset, lent.step, lent.form);
+        let given = (self.call.library)(&mut lent);
         let difference = lent.first_difference(&expected);
         let same = given == answer && difference.is_none();
-        if !same && !spoiled && tally.differ == 0 {
+        if !same && !self.spoiled && self.tally.differ == 0 {
             let lent = difference.map(|name| format!(", and the {name} differs")).unwrap_or_default();
-            println!("{}, case {case}: expected {answer:?}, given {given:?}{lent}", call.name);
+            let (name, case) = (self.call.name, self.tally.compared);
+            println!("{name}, case {case}, {numbers}: expected {answer:?}, given {given:?}{lent}");
         }
-        tally.add(same);
+        self.tally.add(same);
+        number
     }
-    tally
+}
+
+pub fn compare(trial: &mut Trial, random: &mut Random, cases: usize) {
+    for case in 0..cases {
+        let broken = broken(trial.call, random, case);
+        let lent = draw(random, trial.boxes, trial.call.refusals, &broken);
+        let number = trial.case(random, lent);
+        assert_eq!(number, broken.first().map_or(0, |cause| cause.number()), "drawn as asked");
+    }
 }
 
 /// Which refusals a case is to meet: first every set of them, and later one case in eight meets any set.
-fn broken(call: &Call, random: &mut Random, case: usize) -> Vec<u8> {
+fn broken(call: &Call, random: &mut Random, case: usize) -> Vec<Cause> {
     let sets = 1 << call.refusals.len();
     let set = match case {
         _ if case < TIMES_EACH * sets => case % sets,
@@ -45,7 +61,7 @@ fn broken(call: &Call, random: &mut Random, case: usize) -> Vec<u8> {
         _ => 0,
     };
     let chosen = call.refusals.iter().enumerate().filter(|(i, _)| set >> i & 1 == 1);
-    chosen.map(|(_, number)| *number).collect()
+    chosen.map(|(_, cause)| *cause).collect()
 }
 
 /// What should be answered, and what lent should hold then: the same as before, where the call is refused.

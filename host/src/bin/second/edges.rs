@@ -1,4 +1,7 @@
-//! The edges that the scope names, one by one.
+//! The edges that the scope and the requests name, one by one.
+
+mod sheets;
+mod steps;
 
 use crate::masked::PUBLISHED;
 use crate::report::Tally;
@@ -14,13 +17,25 @@ struct Edge {
 /// Prints each edge, and counts those that are not where they should be. A spoiled expectation must be found to differ.
 pub fn compare(spoiled: bool) -> Tally {
     let mut tally = Tally::default();
-    let edges =
-        [lengths_of_keys(), huge(), offsets_and_forms(), many_blocks(), powers(), sheets(), zero_masks(), fitness(), box_order()];
+    let edges = [
+        lengths_of_keys(),
+        huge(),
+        offsets_and_forms(),
+        steps::refused(),
+        steps::masks(),
+        many_blocks(),
+        powers(),
+        sheets::read(),
+        sheets::written(),
+        zero_masks(),
+        fitness(),
+        box_order(),
+    ];
     for edge in edges.into_iter().flatten() {
         let expected = edge.expected ^ u16::from(spoiled);
         let same = edge.given == expected;
         let verdict = if same { String::new() } else { format!(", and should be {expected}") };
-        println!("  {:<48} {:>5}{verdict}", edge.name, edge.given);
+        println!("  {:<56} {:>5}{verdict}", edge.name, edge.given);
         tally.add(same);
     }
     tally
@@ -40,12 +55,13 @@ fn lengths_of_keys() -> Vec<Edge> {
 /// A mebibyte where a few bytes are wanted.
 fn huge() -> Vec<Edge> {
     let many = vec![0; 1 << 20];
+    let sheet = [b"MSK\x00\x01", &many[5..]].concat();
     vec![
         edge("reply to a key of a mebibyte", calls::expand_key(&many, &mut [0; 240]), 1),
         edge("reply to a schedule of a mebibyte", calls::encrypt(&many, &[0; 16], &mut [0; 16]), 2),
         edge("reply to a block of a mebibyte", calls::encrypt(&[0; 240], &many, &mut [0; 16]), 3),
         edge("reply to a mask table of a mebibyte", calls::fitness(&many) >> 8, 5),
-        edge("reply to a sheet of a mebibyte", calls::read_sheet(&many, &mut [0; 16]), 11),
+        edge("reply to a sheet of a mebibyte", calls::read_sheet(&sheet, &mut [0; 16]) >> 8, 11),
     ]
 }
 
@@ -53,13 +69,13 @@ fn offsets_and_forms() -> Vec<Edge> {
     let (w, block, masks) = ([0; 240], [0; 16], [0; 16]);
     let mut edges = Vec::new();
     for (offset, form, expected) in [(15, 0, 0), (16, 0, 6), (0, 1, 0), (0, 2, 7)] {
-        let published = calls::encrypt_published(&w, &block, &mut [0; 16], offset, form);
+        let published = calls::encrypt_published(&w, &block, &mut [0; 16], offset, 1, form);
         edges.push(edge(format!("reply to offset {offset}, form {form}, published masks"), published, expected));
-        let masked = calls::encrypt_masked(&w, &block, &mut [0; 16], &masks, offset, form);
+        let masked = calls::encrypt_masked(&w, &block, &mut [0; 16], &masks, offset, 1, form);
         edges.push(edge(format!("reply to offset {offset}, form {form}, any masks"), masked, expected));
     }
     for (offset, expected) in [(15, 0), (16, 6)] {
-        let recorded = calls::record_masked(&w, &block, &masks, offset, &mut [0; 1136]);
+        let recorded = calls::record_masked(&w, &block, &masks, offset, 1, &mut [0; 1136]);
         edges.push(edge(format!("reply to offset {offset}, recorded"), recorded, expected));
     }
     edges
@@ -68,7 +84,7 @@ fn offsets_and_forms() -> Vec<Edge> {
 fn many_blocks() -> Vec<Edge> {
     let w = [0; 240];
     let called = |input: usize, output: usize, offsets: &[u8], form: u8| {
-        calls::encrypt_blocks(&w, &vec![0; input], &mut vec![0; output], offsets, form)
+        calls::encrypt_blocks(&w, &vec![0; input], &mut vec![0; output], offsets, 1, form)
     };
     let mut edges = Vec::new();
     for (length, expected) in [(0, 0), (15, 3), (16, 0), (17, 3), (4096, 0), (4112, 3)] {
@@ -82,8 +98,8 @@ fn many_blocks() -> Vec<Edge> {
         edge("reply to no blocks and an offset", called(0, 0, &[0], 0), 14),
         edge("reply to 256 blocks and 255 offsets", called(4096, 4096, &last[..255], 0), 14),
         edge("reply to no blocks in form 2", called(0, 0, &[], 2), 7),
-        edge("reply to no blocks and a short schedule", calls::encrypt_blocks(&w[1..], &[], &mut [], &[], 0), 2),
-        edge("reply to 256 blocks, the last offset 16", calls::encrypt_blocks(&w, &[0; 4096], &mut kept, &last, 0), 6),
+        edge("reply to no blocks and a short schedule", calls::encrypt_blocks(&w[1..], &[], &mut [], &[], 1, 0), 2),
+        edge("reply to 256 blocks, the last offset 16", calls::encrypt_blocks(&w, &[0; 4096], &mut kept, &last, 1, 0), 6),
         edge("bytes that are written then", difference(&kept, &[1; 4096]), 0),
         edge("fault that reply 14 is, the caller's", calls::sort_reply(14), 1),
     ]);
@@ -101,23 +117,11 @@ fn powers() -> Vec<Edge> {
     ]
 }
 
-fn sheets() -> Vec<Edge> {
-    let sheet = |length: usize| [b"MSK\x00\x01".to_vec(), vec![7; length - 5]].concat();
-    let mut edges = Vec::new();
-    for (length, expected) in [(20, 11), (21, 0), (22, 11)] {
-        let read = calls::read_sheet(&sheet(length), &mut [0; 16]);
-        edges.push(edge(format!("reply to a sheet of {length} bytes, read"), read, expected));
-        let written = calls::write_sheet(&[7; 16], &mut vec![0; length]);
-        edges.push(edge(format!("reply to a sheet of {length} bytes, written"), written, expected));
-    }
-    edges
-}
-
 fn zero_masks() -> Vec<Edge> {
     let (mut w, mut plain, mut masked) = ([0; 240], [1; 1136], [2; 1136]);
     calls::expand_key(&[3; 32], &mut w);
     calls::record_plain(&w, &[4; 16], &mut plain);
-    let recorded = calls::record_masked(&w, &[4; 16], &[0; 16], 5, &mut masked);
+    let recorded = calls::record_masked(&w, &[4; 16], &[0; 16], 5, 1, &mut masked);
     vec![
         edge("reply to masks that are all 00, recorded", recorded, 0),
         edge("bytes in which that record is not the plain one", difference(&plain, &masked), 0),
@@ -142,18 +146,21 @@ fn fitness() -> Vec<Edge> {
 fn box_order() -> Vec<Edge> {
     let even_first: [usize; 16] = std::array::from_fn(|k| 2 * k % 16 + k / 8);
     let natural: [usize; 16] = std::array::from_fn(|k| k);
-    [(even_first, "even boxes first", 0), (natural, "boxes in natural order", 16 * 14 * 15)]
-        .map(|(order, name, expected)| edge(format!("pairs left bare, {name}"), pairs_left_bare(&order), expected))
-        .into()
+    let other_steps: u16 = (4..16).map(|step| pairs_left_bare(&even_first, step)).sum();
+    vec![
+        edge("pairs left bare, even boxes first", pairs_left_bare(&even_first, 1), 0),
+        edge("pairs left bare, boxes in natural order", pairs_left_bare(&natural, 1), 16 * 14 * 15),
+        edge("pairs left bare, even boxes first, steps 4 to 15", other_steps, 0),
+    ]
 }
 
-fn pairs_left_bare(order: &[usize; 16]) -> u16 {
+fn pairs_left_bare(order: &[usize; 16], step: u8) -> u16 {
     let (mut w, mut plain, mut masked) = ([0; 240], [1; 1136], [2; 1136]);
     calls::expand_key(&[5; 32], &mut w);
     calls::record_plain(&w, &[6; 16], &mut plain);
     let mut bare = 0;
     for offset in 0..16 {
-        calls::record_masked(&w, &[6; 16], &PUBLISHED, offset, &mut masked);
+        calls::record_masked(&w, &[6; 16], &PUBLISHED, offset, step, &mut masked);
         for keyed in (0..14).map(|round| 16 * (5 * round + 1)) {
             let between = |record: &[u8], pair: &[usize]| record[keyed + 16 + pair[0]] ^ record[keyed + pair[1]];
             bare += order.windows(2).filter(|pair| between(&masked, pair) == between(&plain, pair)).count();

@@ -50,12 +50,13 @@ pub struct Lent {
     pub output: Buffer,
     pub masks: Buffer,
     pub states: Buffer,
-    /// A sheet to read, and a buffer of the same length to write one to.
+    /// A sheet to read, and a buffer to write one to.
     pub sheet: Buffer,
     pub blank: Buffer,
     /// For many blocks, the offset of each.
     pub offsets: Buffer,
     pub offset: u8,
+    pub step: u8,
     pub form: u8,
 }
 

@@ -1,5 +1,6 @@
 //! The independent second program: `second SEED CASES [SPOILED]` compares every public call of the library with an
-//! implementation of its own, on so many cases drawn from the seed, and on all inputs of the calls that take bytes alone.
+//! implementation of its own, on so many cases drawn from the seed, on every step where there is one, and on all inputs of the
+//! calls that take bytes alone.
 //!
 //! It prints for each call how many cases were compared and how many differ, and fails where any does. SPOILED names a call, or
 //! `edges`: what is expected of it is then changed, so that each of its cases must differ.
@@ -19,13 +20,14 @@ mod random;
 mod replies;
 mod report;
 mod sheet;
+mod steps;
 mod table;
 
 use crate::bytes::BYTE_CALLS;
 use crate::cipher::Boxes;
-use crate::compare::compare;
+use crate::compare::{compare, Trial};
 use crate::random::Random;
-use crate::report::Report;
+use crate::report::{Report, Tally};
 use crate::table::CALLS;
 use std::process::exit;
 
@@ -49,8 +51,13 @@ fn all(seed: u64, cases: usize, spoiled: &str) -> bool {
     let mut random = Random::new(seed);
     let mut report = Report::start();
     for call in CALLS {
-        let tally = compare(call, &boxes, &mut random, cases, call.name == spoiled);
-        report.row(call.name, call.method, tally);
+        let trial = || Trial { call, boxes: &boxes, spoiled: call.name == spoiled, tally: Tally::default() };
+        let (mut drawn, mut every_step) = (trial(), trial());
+        compare(&mut drawn, &mut random, cases);
+        report.row(call.name, call.method, drawn.tally);
+        if steps::compare(&mut every_step, &mut random) {
+            report.row(call.name, "the same at every step", every_step.tally);
+        }
     }
     for call in BYTE_CALLS {
         let tally = call.compare(&mut random, call.name == spoiled);

@@ -6,10 +6,11 @@ use std::array::from_fn;
 /// The sixteen masks that document 002 publishes.
 pub const PUBLISHED: [u8; 16] = [0x00, 0x0f, 0x36, 0x39, 0x53, 0x5c, 0x65, 0x6a, 0x95, 0x9a, 0xa3, 0xac, 0xc6, 0xc9, 0xf0, 0xff];
 
-/// What a masked run is run with. Labels are counted modulo 16.
+/// What a masked run is run with. Labels are counted modulo 16, and advance by the step from round to round.
 pub struct Masking {
     pub masks: [u8; 16],
     pub offset: usize,
+    pub step: usize,
     pub form: u8,
 }
 
@@ -18,22 +19,22 @@ impl Masking {
         self.masks[label % 16]
     }
 
-    /// Mask(offset + k).
-    fn mask(&self, k: usize) -> State {
-        from_fn(|i| self.mask_byte(self.offset + k + i))
+    /// The mask after so many rounds, Mask(offset + step * rounds).
+    fn mask(&self, rounds: usize) -> State {
+        from_fn(|i| self.mask_byte(self.offset + self.step * rounds + i))
     }
 
-    /// Compensation(offset + k).
-    fn compensation(&self, k: usize) -> State {
-        let mask = self.mask(k);
+    /// Compensation(offset + step * rounds).
+    fn compensation(&self, rounds: usize) -> State {
+        let mask = self.mask(rounds);
         add(&mask, &mix_columns(&shift_rows(&mask)))
     }
 
-    /// Box offset + i + round on byte i.
+    /// Box offset + i + step * round on byte i.
     fn boxes(&self, boxes: &Boxes, s: &State, round: usize) -> State {
         from_fn(|i| {
-            let label = self.offset + i + round;
-            boxes.s(s[i] ^ self.mask_byte(label)) ^ self.mask_byte(label + 1)
+            let label = self.offset + i + self.step * round;
+            boxes.s(s[i] ^ self.mask_byte(label)) ^ self.mask_byte(label + self.step)
         })
     }
 
@@ -78,7 +79,7 @@ impl Masking {
         masks
     }
 
-    /// What covers the finished block: nothing in form 0, Mask(offset + 14) in form 1.
+    /// What covers the finished block: nothing in form 0, Mask(offset + 14 * step) in form 1.
     pub fn cover_of_result(&self) -> State {
         match self.form {
             0 => [0; 16],

@@ -1,36 +1,98 @@
-//! The scope's table of replies, for the calls that are lent buffers: what causes each number.
+//! The scope's table of replies, with what the requests have added to it, for the calls that are lent buffers: what causes each
+//! number.
 
 use crate::lent::Lent;
 
-/// The first number of a call's order whose cause is there, and 0 where none is.
-pub fn reply(order: &[u8], lent: &Lent) -> u8 {
-    order.iter().copied().find(|&number| met(number, lent, takes_many(order))).unwrap_or(0)
+/// What a call can find wrong. A reply number can have several causes: a sheet is measured twice where it is read, and for many
+/// blocks lengths are measured otherwise than for one.
+#[derive(Clone, Copy, Debug, PartialEq)]
+pub enum Cause {
+    Key,
+    Schedule,
+    Input,
+    Output,
+    /// Of many blocks: not whole ones, or too many.
+    Blocks,
+    /// Of many blocks: output and input are not equally long.
+    Room,
+    Masks,
+    Offset,
+    /// Of many blocks: the offset of any.
+    AnyOffset,
+    /// Of many blocks: not one offset for each.
+    OffsetCount,
+    Step,
+    Form,
+    States,
+    /// A sheet to read that is too short for mark and version.
+    SheetHead,
+    Mark,
+    Version,
+    /// A sheet to read that is not as long as its version.
+    SheetLength,
+    SheetStep,
+    /// A buffer for a sheet that is not as long as the step asks.
+    BlankLength,
 }
 
-/// Whether a call with these refusals takes many blocks: it alone can miss an offset.
-pub fn takes_many(order: &[u8]) -> bool {
-    order.contains(&14)
+/// The number of the first cause in a call's order that is there, and 0 where none is.
+pub fn reply(order: &[Cause], lent: &Lent) -> u8 {
+    order.iter().find(|cause| cause.is_there(lent)).map_or(0, |cause| cause.number())
 }
 
-fn met(number: u8, lent: &Lent, many: bool) -> bool {
-    let sheet = lent.sheet.lent();
-    let (input, offsets) = (lent.input.lent(), lent.offsets.lent());
-    match number {
-        3 if many => input.len() % 16 != 0 || input.len() > 256 * 16,
-        4 if many => lent.output.lent().len() != input.len(),
-        6 if many => offsets.iter().any(|&offset| offset > 15),
-        14 => offsets.len() != input.len() / 16,
-        1 => lent.key.lent().len() != 32,
-        2 => lent.schedule.lent().len() != 240,
-        3 => input.len() != 16,
-        4 => lent.output.lent().len() != 16,
-        5 => lent.masks.lent().len() != 16,
-        6 => lent.offset > 15,
-        7 => lent.form > 1,
-        8 => lent.states.lent().len() != 1136,
-        11 => sheet.len() != 21,
-        12 => !sheet.starts_with(b"MSK"),
-        13 => sheet[3..5] != [0, 1],
-        _ => panic!("reply {number} has no cause in a buffer"),
+/// Whether a run takes a step.
+pub fn takes_step(step: u8) -> bool {
+    !matches!(step, 0 | 2 | 3 | 16..=255)
+}
+
+/// Whether a call with these refusals takes many blocks.
+pub fn takes_many(order: &[Cause]) -> bool {
+    order.contains(&Cause::Blocks)
+}
+
+impl Cause {
+    pub fn number(self) -> u8 {
+        match self {
+            Cause::Key => 1,
+            Cause::Schedule => 2,
+            Cause::Input | Cause::Blocks => 3,
+            Cause::Output | Cause::Room => 4,
+            Cause::Masks => 5,
+            Cause::Offset | Cause::AnyOffset => 6,
+            Cause::Form => 7,
+            Cause::States => 8,
+            Cause::SheetHead | Cause::SheetLength | Cause::BlankLength => 11,
+            Cause::Mark => 12,
+            Cause::Version => 13,
+            Cause::OffsetCount => 14,
+            Cause::Step | Cause::SheetStep => 15,
+        }
+    }
+
+    /// Of a sheet a later cause is looked for only where no earlier one is there.
+    fn is_there(self, lent: &Lent) -> bool {
+        let (input, offsets) = (lent.input.lent(), lent.offsets.lent());
+        let (sheet, blank) = (lent.sheet.lent(), lent.blank.lent());
+        match self {
+            Cause::Key => lent.key.lent().len() != 32,
+            Cause::Schedule => lent.schedule.lent().len() != 240,
+            Cause::Input => input.len() != 16,
+            Cause::Output => lent.output.lent().len() != 16,
+            Cause::Blocks => input.len() % 16 != 0 || input.len() > 256 * 16,
+            Cause::Room => lent.output.lent().len() != input.len(),
+            Cause::Masks => lent.masks.lent().len() != 16,
+            Cause::Offset => lent.offset > 15,
+            Cause::AnyOffset => offsets.iter().any(|&offset| offset > 15),
+            Cause::OffsetCount => offsets.len() != input.len() / 16,
+            Cause::Step => !takes_step(lent.step),
+            Cause::Form => lent.form > 1,
+            Cause::States => lent.states.lent().len() != 1136,
+            Cause::SheetHead => sheet.len() < 5,
+            Cause::Mark => !sheet.starts_with(b"MSK"),
+            Cause::Version => sheet[3..5] != [0, 1] && sheet[3..5] != [0, 2],
+            Cause::SheetLength => sheet.len() != if sheet[4] == 1 { 21 } else { 22 },
+            Cause::SheetStep => sheet[4] == 2 && matches!(sheet[21], 0..=3 | 16..=255),
+            Cause::BlankLength => blank.len() != if lent.step == 1 { 21 } else { 22 },
+        }
     }
 }

@@ -1,8 +1,19 @@
 //! The mask sheet, the fitness of masks and the sorting of replies, as the scope states them.
 
-/// The sheet of sixteen masks.
-pub fn written(masks: &[u8]) -> Vec<u8> {
-    [b"MSK", &[0, 1][..], masks].concat()
+/// The sheet of sixteen masks and a step.
+pub fn written(masks: &[u8], step: u8) -> Vec<u8> {
+    match step {
+        1 => [b"MSK", &[0, 1][..], masks].concat(),
+        _ => [b"MSK", &[0, 2][..], masks, &[step]].concat(),
+    }
+}
+
+/// The step of a sheet: version 1 has none of its own.
+pub fn step(sheet: &[u8]) -> u8 {
+    match sheet[4] {
+        1 => 1,
+        _ => sheet[21],
+    }
 }
 
 /// 1 where any three bit positions show each of their eight patterns in exactly two of the masks, otherwise 0.

@@ -5,6 +5,7 @@ use crate::answer::{number, packed, Answer};
 use crate::cipher::{add, decrypt, encrypt, expand_key, record, Boxes, State};
 use crate::lent::{Buffer, Lent};
 use crate::masked::{Masking, PUBLISHED};
+use crate::replies::Cause::{self, *};
 use crate::sheet;
 use slipgrease::calls;
 
@@ -12,7 +13,7 @@ use slipgrease::calls;
 pub struct Call {
     pub name: &'static str,
     pub method: &'static str,
-    pub refusals: &'static [u8],
+    pub refusals: &'static [Cause],
     pub library: fn(&mut Lent) -> Answer,
     pub reference: fn(&Boxes, &mut Lent) -> u8,
 }
@@ -23,11 +24,11 @@ fn write(target: &mut Buffer, bytes: &[u8]) -> u8 {
 }
 
 fn published(lent: &Lent) -> Masking {
-    Masking { masks: PUBLISHED, offset: lent.offset.into(), form: lent.form }
+    Masking { masks: PUBLISHED, offset: lent.offset.into(), step: lent.step.into(), form: lent.form }
 }
 
 fn any_masks(lent: &Lent) -> Masking {
-    Masking { masks: lent.masks.sixteen(), offset: lent.offset.into(), form: lent.form }
+    Masking { masks: lent.masks.sixteen(), ..published(lent) }
 }
 
 /// The recorded run is form 0, whatever form was drawn.
@@ -50,56 +51,56 @@ fn covered_record(boxes: &Boxes, lent: &Lent, masking: &Masking) -> Vec<State> {
 }
 
 fn library_published(l: &mut Lent) -> Answer {
-    number(calls::encrypt_published(l.schedule.lent(), l.input.lent(), l.output.lent_mut(), l.offset, l.form))
+    number(calls::encrypt_published(l.schedule.lent(), l.input.lent(), l.output.lent_mut(), l.offset, l.step, l.form))
 }
 
 /// For each block of many what a run over it alone gives, one behind the other.
 fn each(lent: &Lent, one: impl Fn(&Masking, &State) -> State) -> Vec<u8> {
     let blocks = lent.input.lent().chunks_exact(16).map(|block| block.try_into().expect("sixteen bytes"));
-    let masking = |&offset: &u8| Masking { masks: PUBLISHED, offset: offset.into(), form: lent.form };
+    let masking = |&offset: &u8| Masking { offset: offset.into(), ..published(lent) };
     blocks.zip(lent.offsets.lent().iter().map(masking)).flat_map(|(block, masking)| one(&masking, &block)).collect()
 }
 
 fn library_many(l: &mut Lent) -> Answer {
-    number(calls::encrypt_blocks(l.schedule.lent(), l.input.lent(), l.output.lent_mut(), l.offsets.lent(), l.form))
+    number(calls::encrypt_blocks(l.schedule.lent(), l.input.lent(), l.output.lent_mut(), l.offsets.lent(), l.step, l.form))
 }
 
 fn library_masked(l: &mut Lent) -> Answer {
     let masks = l.masks.lent();
-    number(calls::encrypt_masked(l.schedule.lent(), l.input.lent(), l.output.lent_mut(), masks, l.offset, l.form))
+    number(calls::encrypt_masked(l.schedule.lent(), l.input.lent(), l.output.lent_mut(), masks, l.offset, l.step, l.form))
 }
 
 fn library_recorded(l: &mut Lent) -> Answer {
     let masks = l.masks.lent();
-    number(calls::record_masked(l.schedule.lent(), l.input.lent(), masks, l.offset, l.states.lent_mut()))
+    number(calls::record_masked(l.schedule.lent(), l.input.lent(), masks, l.offset, l.step, l.states.lent_mut()))
 }
 
 pub const CALLS: &[Call] = &[
     Call {
         name: "expand_key",
         method: "KEYEXPANSION",
-        refusals: &[1, 2],
+        refusals: &[Key, Schedule],
         library: |l| number(calls::expand_key(l.key.lent(), l.schedule.lent_mut())),
         reference: |b, l| write(&mut l.schedule, &expand_key(b, l.key.lent())),
     },
     Call {
         name: "encrypt",
         method: "CIPHER",
-        refusals: &[2, 3, 4],
+        refusals: &[Schedule, Input, Output],
         library: |l| number(calls::encrypt(l.schedule.lent(), l.input.lent(), l.output.lent_mut())),
         reference: |b, l| write(&mut l.output, &encrypt(b, l.schedule.lent(), &l.input.sixteen())),
     },
     Call {
         name: "decrypt",
         method: "INVCIPHER",
-        refusals: &[2, 3, 4],
+        refusals: &[Schedule, Input, Output],
         library: |l| number(calls::decrypt(l.schedule.lent(), l.input.lent(), l.output.lent_mut())),
         reference: |b, l| write(&mut l.output, &decrypt(b, l.schedule.lent(), &l.input.sixteen())),
     },
     Call {
         name: "record_plain",
         method: "states of CIPHER",
-        refusals: &[2, 3, 8],
+        refusals: &[Schedule, Input, States],
         library: |l| number(calls::record_plain(l.schedule.lent(), l.input.lent(), l.states.lent_mut())),
         reference: |b, l| {
             let states = record(b, l.schedule.lent(), &l.input.sixteen());
@@ -109,7 +110,7 @@ pub const CALLS: &[Call] = &[
     Call {
         name: "encrypt_published",
         method: "masked run",
-        refusals: &[2, 3, 4, 6, 7],
+        refusals: &[Schedule, Input, Output, Offset, Step, Form],
         library: library_published,
         reference: |b, l| {
             let states = run(b, l, &published(l));
@@ -119,7 +120,7 @@ pub const CALLS: &[Call] = &[
     Call {
         name: "encrypt_published",
         method: "covered CIPHER",
-        refusals: &[2, 3, 4, 6, 7],
+        refusals: &[Schedule, Input, Output, Offset, Step, Form],
         library: library_published,
         reference: |b, l| {
             let block = covered_cipher(b, l, &published(l));
@@ -129,7 +130,7 @@ pub const CALLS: &[Call] = &[
     Call {
         name: "encrypt_blocks",
         method: "masked run of each block",
-        refusals: &[2, 3, 4, 14, 6, 7],
+        refusals: &[Schedule, Blocks, Room, OffsetCount, AnyOffset, Step, Form],
         library: library_many,
         reference: |b, l| {
             let blocks = each(l, |masking, block| masking.run(b, l.schedule.lent(), block)[70]);
@@ -139,7 +140,7 @@ pub const CALLS: &[Call] = &[
     Call {
         name: "encrypt_blocks",
         method: "covered CIPHER of each block",
-        refusals: &[2, 3, 4, 14, 6, 7],
+        refusals: &[Schedule, Blocks, Room, OffsetCount, AnyOffset, Step, Form],
         library: library_many,
         reference: |b, l| {
             let blocks = each(l, |masking, block| add(&encrypt(b, l.schedule.lent(), block), &masking.cover_of_result()));
@@ -149,7 +150,7 @@ pub const CALLS: &[Call] = &[
     Call {
         name: "encrypt_masked",
         method: "masked run",
-        refusals: &[2, 3, 4, 5, 6, 7],
+        refusals: &[Schedule, Input, Output, Masks, Offset, Step, Form],
         library: library_masked,
         reference: |b, l| {
             let states = run(b, l, &any_masks(l));
@@ -159,7 +160,7 @@ pub const CALLS: &[Call] = &[
     Call {
         name: "encrypt_masked",
         method: "covered CIPHER",
-        refusals: &[2, 3, 4, 5, 6, 7],
+        refusals: &[Schedule, Input, Output, Masks, Offset, Step, Form],
         library: library_masked,
         reference: |b, l| {
             let block = covered_cipher(b, l, &any_masks(l));
@@ -169,7 +170,7 @@ pub const CALLS: &[Call] = &[
     Call {
         name: "record_masked",
         method: "masked run",
-        refusals: &[2, 3, 5, 6, 8],
+        refusals: &[Schedule, Input, Masks, Offset, Step, States],
         library: library_recorded,
         reference: |b, l| {
             let states = run(b, l, &form_0(l));
@@ -179,7 +180,7 @@ pub const CALLS: &[Call] = &[
     Call {
         name: "record_masked",
         method: "covered states of CIPHER",
-        refusals: &[2, 3, 5, 6, 8],
+        refusals: &[Schedule, Input, Masks, Offset, Step, States],
         library: library_recorded,
         reference: |b, l| {
             let states = covered_record(b, l, &form_0(l));
@@ -188,22 +189,25 @@ pub const CALLS: &[Call] = &[
     },
     Call {
         name: "read_sheet",
-        method: "the sheet's last sixteen",
-        refusals: &[11, 12, 13, 5],
-        library: |l| number(calls::read_sheet(l.sheet.lent(), l.masks.lent_mut())),
-        reference: |_, l| write(&mut l.masks, &l.sheet.lent()[5..]),
+        method: "sixteen bytes of it, step",
+        refusals: &[SheetHead, Mark, Version, SheetLength, SheetStep, Masks],
+        library: |l| packed(calls::read_sheet(l.sheet.lent(), l.masks.lent_mut())),
+        reference: |_, l| {
+            write(&mut l.masks, &l.sheet.lent()[5..21]);
+            sheet::step(l.sheet.lent())
+        },
     },
     Call {
         name: "write_sheet",
-        method: "mark, version and masks",
-        refusals: &[11, 5],
-        library: |l| number(calls::write_sheet(l.masks.lent(), l.blank.lent_mut())),
-        reference: |_, l| write(&mut l.blank, &sheet::written(l.masks.lent())),
+        method: "mark, version, masks, step",
+        refusals: &[Step, BlankLength, Masks],
+        library: |l| number(calls::write_sheet(l.masks.lent(), l.step, l.blank.lent_mut())),
+        reference: |_, l| write(&mut l.blank, &sheet::written(l.masks.lent(), l.step)),
     },
     Call {
         name: "fitness",
         method: "each pattern by itself",
-        refusals: &[5],
+        refusals: &[Masks],
         library: |l| packed(calls::fitness(l.masks.lent())),
         reference: |_, l| sheet::fitness(l.masks.lent()),
     },

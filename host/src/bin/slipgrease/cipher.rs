@@ -36,6 +36,7 @@ impl Keyed {
 pub struct Masking {
     pub masks: Option<Given>,
     pub offset: Number,
+    pub step: Option<Number>,
     pub form: Option<Number>,
 }
 
@@ -46,6 +47,7 @@ pub fn explained(refusal: Refusal, keyed: &Keyed, block: &Given, masking: Option
         (Refusal::InputLength, _) => block.refused(refusal),
         (Refusal::MasksLength, Some(Masking { masks: Some(masks), .. })) => masks.refused(refusal),
         (Refusal::OffsetRange, Some(masking)) => masking.offset.refused(refusal),
+        (Refusal::StepWrong, Some(Masking { step: Some(step), .. })) => step.refused(refusal),
         (Refusal::FormUnknown, Some(Masking { form: Some(form), .. })) => form.refused(refusal),
         _ => Fault::refused(refusal, "the library"),
     }
@@ -81,9 +83,10 @@ fn one_block(words: &mut Words, out: &mut dyn Write, cipher: Cipher) -> Result<(
     Ok(())
 }
 
-/// The module's encryption, at the offset and in the form that the caller names.
+/// The module's encryption, at the offset, with the step and in the form that the caller names.
 pub fn mask(words: &mut Words, out: &mut dyn Write) -> Result<(), Fault> {
     let offset = words.number_of("offset")?;
+    let step = words.number_of("step")?;
     let form = words.number_of("form")?;
     let masks = words.bytes_of("masks")?;
     let keyed = Keyed::read(words)?;
@@ -91,12 +94,13 @@ pub fn mask(words: &mut Words, out: &mut dyn Write) -> Result<(), Fault> {
     words.end()?;
     let offset =
         offset.ok_or_else(|| Fault::caller("--offset is missing: the run's offset, 0 to 15, is the caller's to choose"))?;
-    let masking = Masking { masks, offset, form };
-    let (number, form) = (masking.offset.value, masking.form.as_ref().map_or(0, |form| form.value));
+    let masking = Masking { masks, offset, step, form };
+    let (offset, step) = (masking.offset.value, Number::step(&masking.step));
+    let form = masking.form.as_ref().map_or(0, |form| form.value);
     let mut output = [0; 16];
     let made = match &masking.masks {
-        None => slipgrease::encrypt_published(&keyed.bytes, &block.bytes, &mut output, number, form),
-        Some(masks) => slipgrease::encrypt_masked(&keyed.bytes, &block.bytes, &mut output, &masks.bytes, number, form),
+        None => slipgrease::encrypt_published(&keyed.bytes, &block.bytes, &mut output, offset, step, form),
+        Some(masks) => slipgrease::encrypt_masked(&keyed.bytes, &block.bytes, &mut output, &masks.bytes, offset, step, form),
     };
     made.map_err(|refusal| explained(refusal, &keyed, &block, Some(&masking)))?;
     writeln!(out, "{}", digits(&output))?;
@@ -106,6 +110,7 @@ pub fn mask(words: &mut Words, out: &mut dyn Write) -> Result<(), Fault> {
 /// The module's encryption of many blocks in one call, a block to a line.
 pub fn blocks(words: &mut Words, out: &mut dyn Write) -> Result<(), Fault> {
     let offsets = words.bytes_of("offsets")?;
+    let step = words.number_of("step")?;
     let form = words.number_of("form")?;
     let keyed = Keyed::read(words)?;
     let blocks = words.all_bytes("blocks")?;
@@ -113,11 +118,12 @@ pub fn blocks(words: &mut Words, out: &mut dyn Write) -> Result<(), Fault> {
         .ok_or_else(|| Fault::caller("--offsets is missing: a byte for each block, 00 to 0f, that is the caller's to choose"))?;
     let mut output = vec![0; blocks.bytes.len()];
     let number = form.as_ref().map_or(0, |form| form.value);
-    let made = slipgrease::encrypt_blocks(&keyed.bytes, &blocks.bytes, &mut output, &offsets.bytes, number);
-    made.map_err(|refusal| match (refusal, &form) {
-        (Refusal::OffsetsLength, _) => offsets.refused(refusal),
-        (Refusal::OffsetRange, _) => wrong_offset(&offsets),
-        (Refusal::FormUnknown, Some(form)) => form.refused(refusal),
+    let made = slipgrease::encrypt_blocks(&keyed.bytes, &blocks.bytes, &mut output, &offsets.bytes, Number::step(&step), number);
+    made.map_err(|refusal| match (refusal, &step, &form) {
+        (Refusal::OffsetsLength, ..) => offsets.refused(refusal),
+        (Refusal::OffsetRange, ..) => wrong_offset(&offsets),
+        (Refusal::StepWrong, Some(step), _) => step.refused(refusal),
+        (Refusal::FormUnknown, _, Some(form)) => form.refused(refusal),
         _ => explained(refusal, &keyed, &blocks, None),
     })?;
     for block in output.chunks(16) {

@@ -42,24 +42,25 @@ $ slipgrease decrypt 000102030405060708090a0b0c0d0e0f101112131415161718191a1b1c1
     },
     Help {
         name: "mask",
-        usage: "mask --offset O [--form F] [--masks MASKS] KEY BLOCK",
+        usage: "mask --offset O [--step D] [--form F] [--masks MASKS] KEY BLOCK",
         summary: "a block encrypted by the module's engine",
         text: "\
-Prints the block that a masked run ends with, at an offset from 0 to 15 that the caller chooses. Form 0, which is meant where
-none is named, gives the standard ciphertext; form 1 the ciphertext still covered by Mask(O+14), as early modules made it. The
-masks are the published ones unless sixteen others are given. --schedule SCHEDULE can stand for the key.",
+Prints the block that a masked run ends with, at an offset from 0 to 15 that the caller chooses. The step is how far the labels of
+the masks advance in a round, 1 or 4 to 15. Form 0 gives the standard ciphertext; form 1 the ciphertext still covered by
+Mask(O+14D), as early modules made it. Where they are not named, the step is 1, the form 0 and the masks are the published ones.
+--schedule SCHEDULE can stand for the key.",
         example: "\
 $ slipgrease mask --offset 3 000102030405060708090a0b0c0d0e0f101112131415161718191a1b1c1d1e1f 00112233445566778899aabbccddeeff
 8ea2b7ca516745bfeafc49904b496089",
     },
     Help {
         name: "blocks",
-        usage: "blocks --offsets OFFSETS [--form F] KEY BLOCK ..",
+        usage: "blocks --offsets OFFSETS [--step D] [--form F] KEY BLOCK ..",
         summary: "up to 256 blocks encrypted by the module's engine in one call",
         text: "\
 Prints for each block what mask prints for it, a block to a line. OFFSETS has a byte for each of them, 00 to 0f. If any is wrong,
-no block is encrypted. Blocks that are not given as arguments are all words of standard input. --schedule SCHEDULE can stand for
-the key.",
+no block is encrypted. The step, 1 or 4 to 15, and the form are the same for all; where they are not named, 1 and 0. Blocks that
+are not given as arguments are all words of standard input. --schedule SCHEDULE can stand for the key.",
         example: "\
 $ slipgrease blocks --offsets 030f 603deb1015ca71be2b73aef0857d77811f352c073b6108d72d9810a30914dff4 \
 6bc1bee22e409f96e93d7e117393172a ae2d8a571e03ac9c9eb76fac45af8e51
@@ -68,14 +69,16 @@ f3eed1bdb5d2a03c064b5a7e3db181f8
     },
     Help {
         name: "record",
-        usage: "record [--offset O] [--masks MASKS] [--svg FILE] KEY BLOCK",
+        usage: "record [--offset O] [--step D] [--masks MASKS] [--svg FILE] KEY BLOCK",
         summary: "the 71 states of a run, or of two side by side",
         text: "\
 Without an offset the run is plain. With one it is masked, and each state stands with the plain one, its mask and the mask's
-name. The masks are the published ones unless sixteen others are given. --schedule SCHEDULE can stand for the key.
+name. The step is 1 unless another is named, 4 to 15, and the masks are the published ones unless sixteen others are given.
+--schedule SCHEDULE can stand for the key.
 
-A second run is put beside the first where --offset2 O, --masks2 MASKS, --key2 KEY or --block2 BLOCK is given; what it is not given
-it has from the first. The bytes in which the two differ are marked: their xor is printed, and dots where they are equal.
+A second run is put beside the first where --offset2 O, --step2 D, --masks2 MASKS, --key2 KEY or --block2 BLOCK is given; what it
+is not given it has from the first. The bytes in which the two differ are marked: their xor is printed, and dots where they are
+equal.
 
 --svg FILE draws the same as a picture.",
         example: "\
@@ -88,12 +91,12 @@ $ slipgrease record 000102030405060708090a0b0c0d0e0f101112131415161718191a1b1c1d
     },
     Help {
         name: "pipe",
-        usage: "pipe KEY BLOCK",
+        usage: "pipe [--step D] KEY BLOCK",
         summary: "a pipe's key, made by the rack and by the module at every offset",
         text: "\
 Prints the rack's ciphertext of a block and, for each of the sixteen offsets, the block as the module covers it, the module's
-ciphertext and whether it is equal, and in how many recorded states and bytes the runs differed from the rack's on the way.
---schedule SCHEDULE can stand for the key.",
+ciphertext and whether it is equal, and in how many recorded states and bytes the runs differed from the rack's on the way. The
+step is 1 unless another is named, 4 to 15. --schedule SCHEDULE can stand for the key.",
         example: "\
 $ slipgrease pipe 000102030405060708090a0b0c0d0e0f101112131415161718191a1b1c1d1e1f 00112233445566778899aabbccddeeff
 The pipe's key, made of the block 00112233445566778899aabbccddeeff
@@ -102,12 +105,16 @@ The pipe's key, made of the block 00112233445566778899aabbccddeeff
     },
     Help {
         name: "sheet",
-        usage: "sheet read SHEET | sheet write MASKS",
+        usage: "sheet read SHEET | sheet write [--step D] MASKS",
         summary: "a mask sheet read or written",
-        text: "A sheet is 21 bytes: 4d 53 4b, version 0001, and sixteen masks. Both ways it goes as hex digits.",
+        text: "\
+A sheet of version 1 is 21 bytes: 4d 53 4b, version 0001, and sixteen masks. It means step 1. Any other step, 4 to 15, is in a
+sheet of version 2, 22 bytes: 4d 53 4b, version 0002, sixteen masks, and the step. Both ways the sheet goes as hex digits. Reading
+prints the masks and then the step; writing takes step 1 where none is named.",
         example: "\
-$ slipgrease sheet read 4d534b0001000f3639535c656a959aa3acc6c9f0ff
-000f3639535c656a959aa3acc6c9f0ff",
+$ slipgrease sheet read 4d534b0002000f3639535c656a959aa3acc6c9f0ff05
+000f3639535c656a959aa3acc6c9f0ff
+step 5",
     },
     Help {
         name: "fitness",
@@ -122,11 +129,12 @@ $ slipgrease fitness 000f3639535c656a959aa3acc6c9f0ff
     },
     Help {
         name: "vectors",
-        usage: "vectors FILE",
+        usage: "vectors [--step D] FILE",
         summary: "a file of test vectors, run and counted",
         text: "\
 Each line of the file has a key, a block and its ciphertext; what follows a # is left out. Each vector is encrypted, decrypted, and
-encrypted with the published masks at all sixteen offsets. What differs is printed, and is a data fault.",
+encrypted with the published masks at all sixteen offsets. The step is 1 unless another is named, 4 to 15. What differs is
+printed, and is a data fault.",
         example: "\
 $ slipgrease vectors vectors.txt
 vectors 1, compared 18, differ 0",

@@ -9,6 +9,7 @@ use std::fmt;
 use std::io::Write;
 
 pub fn pipe(words: &mut Words, out: &mut dyn Write) -> Result<(), Fault> {
+    let step = words.taken_step()?;
     let keyed = Keyed::read(words)?;
     let block = words.bytes("block")?;
     words.end()?;
@@ -21,12 +22,12 @@ pub fn pipe(words: &mut Words, out: &mut dyn Write) -> Result<(), Fault> {
 
     writeln!(out, "The pipe's key, made of the block {}", digits(&block))?;
     writeln!(out, "  {:<38}{}", "by the rack", digits(&at_the_rack))?;
-    writeln!(out, "  by the module with the published masks, at each offset")?;
+    writeln!(out, "  by the module with the published masks, step {}, at each offset", step.number())?;
     writeln!(out, "  {:<38}{:<34}equal", "    the block as it is covered", "the key")?;
     let (mut equal, mut states, mut bytes) = (0, Range::new(), Range::new());
     for offset in Offset::all() {
-        let in_the_module = schedule.encrypt_published(&block, offset, Form::Standard);
-        let covered = schedule.record_masked(&block, &Masks::PUBLISHED, offset);
+        let in_the_module = schedule.encrypt_published(&block, offset, step, Form::Standard);
+        let covered = schedule.record_masked(&block, &Masks::PUBLISHED, offset, step);
         let same = in_the_module == at_the_rack;
         equal += usize::from(same);
         states.add(plain.states().zip(covered.states()).filter(|(x, y)| x.1 != y.1).count());

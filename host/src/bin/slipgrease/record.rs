@@ -6,27 +6,27 @@ use crate::hex::digits;
 use crate::svg;
 use crate::table;
 use crate::words::{Given, Number, Words};
-use slipgrease::{Masks, Offset};
+use slipgrease::{Masks, Offset, Step};
 use std::fs;
 use std::io::Write;
 
 pub fn record(words: &mut Words, out: &mut dyn Write) -> Result<(), Fault> {
     let picture = words.option("svg")?;
-    let (offset, masks) = (words.number_of("offset")?, words.bytes_of("masks")?);
-    let (offset2, masks2) = (words.number_of("offset2")?, words.bytes_of("masks2")?);
+    let (offset, step, masks) = (words.number_of("offset")?, words.number_of("step")?, words.bytes_of("masks")?);
+    let (offset2, step2, masks2) = (words.number_of("offset2")?, words.number_of("step2")?, words.bytes_of("masks2")?);
     let (key2, block2) = (words.bytes_of("key2")?, words.bytes_of("block2")?);
     let keyed = Keyed::read(words)?;
     let block = words.bytes("block")?;
     words.end()?;
 
     // What the second run is not given it has from the first.
-    let two = offset2.is_some() || masks2.is_some() || key2.is_some() || block2.is_some();
+    let two = offset2.is_some() || step2.is_some() || masks2.is_some() || key2.is_some() || block2.is_some();
     let second = Asked {
         keyed: key2.map_or(Ok(keyed.clone()), Keyed::expand)?,
         block: block2.unwrap_or_else(|| block.clone()),
-        masking: masking(offset2.or_else(|| offset.clone()), masks2.or_else(|| masks.clone()))?,
+        masking: masking(offset2.or_else(|| offset.clone()), step2.or_else(|| step.clone()), masks2.or_else(|| masks.clone()))?,
     };
-    let first = Run::new(Asked { keyed, block, masking: masking(offset, masks)? })?;
+    let first = Run::new(Asked { keyed, block, masking: masking(offset, step, masks)? })?;
     let second = if two { Some(Run::new(second)?) } else { None };
 
     match picture {
@@ -37,11 +37,13 @@ pub fn record(words: &mut Words, out: &mut dyn Write) -> Result<(), Fault> {
     Ok(())
 }
 
-fn masking(offset: Option<Number>, masks: Option<Given>) -> Result<Option<Masking>, Fault> {
-    match (offset, masks) {
-        (Some(offset), masks) => Ok(Some(Masking { masks, offset, form: None })),
-        (None, None) => Ok(None),
-        (None, Some(_)) => Err(Fault::caller("masks are given and --offset is missing: a run without an offset is plain")),
+fn masking(offset: Option<Number>, step: Option<Number>, masks: Option<Given>) -> Result<Option<Masking>, Fault> {
+    let without_offset = |what| Err(Fault::caller(format!("{what} and --offset is missing: a run without an offset is plain")));
+    match (offset, &step, &masks) {
+        (Some(offset), ..) => Ok(Some(Masking { masks, offset, step, form: None })),
+        (None, _, Some(_)) => without_offset("masks are given"),
+        (None, Some(_), None) => without_offset("a step is given"),
+        (None, None, None) => Ok(None),
     }
 }
 
@@ -52,11 +54,11 @@ struct Asked {
     masking: Option<Masking>,
 }
 
-/// A run: what it is called, its offset if it is masked, its states, and those of the plain run.
+/// A run: what it is called, its offset and step if it is masked, its states, and those of the plain run.
 pub struct Run {
     pub title: String,
     pub block: Vec<u8>,
-    pub offset: Option<Offset>,
+    pub masked: Option<(Offset, Step)>,
     pub states: Vec<u8>,
     pub plain: Vec<u8>,
 }
@@ -72,16 +74,20 @@ impl Run {
                 slipgrease::record_plain(&keyed.bytes, &block.bytes, &mut states).map_err(refused)?;
                 "plain".to_string()
             }
-            Some(Masking { masks, offset, .. }) => {
+            Some(Masking { masks, offset, step, .. }) => {
                 let bytes = masks.as_ref().map_or(&Masks::PUBLISHED.as_bytes()[..], |masks| &masks.bytes);
-                slipgrease::record_masked(&keyed.bytes, &block.bytes, bytes, offset.value, &mut states).map_err(refused)?;
+                let (offset, step) = (offset.value, Number::step(step));
+                slipgrease::record_masked(&keyed.bytes, &block.bytes, bytes, offset, step, &mut states).map_err(refused)?;
                 let named = masks.as_ref().map_or("the published masks".to_string(), |_| format!("masks {}", digits(bytes)));
-                format!("offset {}, {named}", offset.value)
+                format!("offset {offset}, step {step}, {named}")
             }
         };
         slipgrease::record_plain(&keyed.bytes, &block.bytes, &mut plain).map_err(refused)?;
-        let offset = masking.map(|masking| Offset::new(masking.offset.value).expect("the library has taken it"));
-        Ok(Run { title, block: block.bytes, offset, states, plain })
+        let taken = "the library has taken it";
+        let offset = |masking: &Masking| Offset::new(masking.offset.value).expect(taken);
+        let step = |masking: &Masking| Step::new(Number::step(&masking.step)).expect(taken);
+        let masked = masking.map(|masking| (offset(&masking), step(&masking)));
+        Ok(Run { title, block: block.bytes, masked, states, plain })
     }
 
     /// Its title and its block.

@@ -2,15 +2,18 @@
 
 use crate::fault::Fault;
 use crate::hex::digits;
-use crate::words::Words;
+use crate::words::{Number, Words};
+use slipgrease::Refusal;
 use std::io::Write;
 
 pub fn sheet(words: &mut Words, out: &mut dyn Write) -> Result<(), Fault> {
+    let step = words.number_of("step")?;
     let (direction, _) = words.word("read or write")?;
-    match direction.as_str() {
-        "read" => read(words, out),
-        "write" => write(words, out),
-        other => Err(Fault::caller(format!("sheet {other}: read or write is expected"))),
+    match (direction.as_str(), step) {
+        ("read", None) => read(words, out),
+        ("read", Some(_)) => Err(Fault::caller("sheet read: the step is in the sheet, and --step is for sheet write")),
+        ("write", step) => write(words, step, out),
+        (other, _) => Err(Fault::caller(format!("sheet {other}: read or write is expected"))),
     }
 }
 
@@ -18,16 +21,23 @@ fn read(words: &mut Words, out: &mut dyn Write) -> Result<(), Fault> {
     let sheet = words.bytes("sheet")?;
     words.end()?;
     let mut masks = [0; 16];
-    slipgrease::read_sheet(&sheet.bytes, &mut masks).map_err(|refusal| sheet.refused(refusal))?;
-    writeln!(out, "{}", digits(&masks))?;
+    let step = slipgrease::read_sheet(&sheet.bytes, &mut masks).map_err(|refusal| match (refusal, sheet.bytes.get(21)) {
+        (Refusal::StepWrong, Some(step)) => Fault::refused(refusal, &format!("{}, {}: step {step}", sheet.what, sheet.place)),
+        _ => sheet.refused(refusal),
+    })?;
+    writeln!(out, "{}\nstep {step}", digits(&masks))?;
     Ok(())
 }
 
-fn write(words: &mut Words, out: &mut dyn Write) -> Result<(), Fault> {
+fn write(words: &mut Words, step: Option<Number>, out: &mut dyn Write) -> Result<(), Fault> {
     let masks = words.bytes("masks")?;
     words.end()?;
-    let mut sheet = [0; 21];
-    slipgrease::write_sheet(&masks.bytes, &mut sheet).map_err(|refusal| masks.refused(refusal))?;
+    let number = Number::step(&step);
+    let mut sheet = vec![0; if number == 1 { 21 } else { 22 }];
+    slipgrease::write_sheet(&masks.bytes, number, &mut sheet).map_err(|refusal| match (refusal, step) {
+        (Refusal::StepWrong, Some(step)) => step.refused(refusal),
+        _ => masks.refused(refusal),
+    })?;
     writeln!(out, "{}", digits(&sheet))?;
     Ok(())
 }

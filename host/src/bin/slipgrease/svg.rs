@@ -2,7 +2,7 @@
 
 use crate::hex::digits;
 use crate::record::Run;
-use slipgrease::{Point, Step};
+use slipgrease::{Point, Stage};
 use std::fmt::Write;
 
 /// Lengths are in the picture's own units, which a viewer takes for pixels.
@@ -44,7 +44,7 @@ pub fn picture(first: &Run, second: Option<&Run>) -> String {
         ),
         None => {
             let ciphertext = format!("ciphertext {}", digits(&first.states[1120..]));
-            let panels = match first.offset {
+            let panels = match first.masked {
                 None => vec![Panel::of("state", first.states.clone())],
                 Some(_) => vec![
                     Panel::of("plain", first.plain.clone()),
@@ -59,13 +59,13 @@ pub fn picture(first: &Run, second: Option<&Run>) -> String {
         let differ: Vec<bool> = first.states.iter().zip(&second.states).map(|(a, b)| a != b).collect();
         panels.iter_mut().for_each(|panel| panel.marked = differ.clone());
     }
-    let named = if second.is_none() { first.offset } else { None };
-    let mask_name = |point: Point| named.map(|offset| point.mask(offset));
+    let named = if second.is_none() { first.masked } else { None };
+    let mask_name = |point: Point| named.map(|(offset, step)| point.mask(offset, step));
     drawn(title, &lines, &panels, mask_name, second.is_some())
 }
 
 fn kind(run: &Run) -> String {
-    run.offset.map_or("plain".to_string(), |offset| format!("offset {}", offset.number()))
+    run.masked.map_or("plain".to_string(), |(offset, step)| format!("offset {}, step {}", offset.number(), step.number()))
 }
 
 fn xor(a: &[u8], b: &[u8]) -> Vec<u8> {
@@ -105,7 +105,7 @@ fn frame(width: usize, height: usize, title: &str, lines: &[String]) -> String {
          .line {{ font-size: 13px; }}\n\
          .caption {{ font-size: 13px; font-weight: bold; text-anchor: middle; }}\n\
          .round {{ font-weight: bold; }}\n\
-         .step {{ text-anchor: end; }}\n\
+         .stage {{ text-anchor: end; }}\n\
          .place {{ font-size: 9px; fill: #888; text-anchor: middle; }}\n\
          .byte {{ font-family: 'DejaVu Sans Mono', Menlo, Consolas, monospace; font-size: 10px; text-anchor: middle; }}\n\
          .pale {{ fill: #bbb; }}\n\
@@ -128,17 +128,17 @@ fn labels(svg: &mut String, point: Point, right: usize) {
         let y = y - ROUND_GAP / 2;
         let _ = writeln!(svg, "<path d=\"M{MARGIN} {y}H{right}\" stroke=\"#ddd\"/>");
     }
-    let step = match point.step() {
-        Step::Block => "block",
-        Step::Key if n == 69 => "key 14",
-        Step::Key => "key",
-        Step::Boxes => "boxes",
-        Step::ShiftRows => "ShiftRows",
-        Step::MixColumns => "MixColumns",
-        Step::Compensation => "compensation",
-        Step::Uncovering => "ciphertext",
+    let stage = match point.stage() {
+        Stage::Block => "block",
+        Stage::Key if n == 69 => "key 14",
+        Stage::Key => "key",
+        Stage::Boxes => "boxes",
+        Stage::ShiftRows => "ShiftRows",
+        Stage::MixColumns => "MixColumns",
+        Stage::Compensation => "compensation",
+        Stage::Uncovering => "ciphertext",
     };
-    text(svg, "step", LEFT - 8, y + 11, step);
+    text(svg, "stage", LEFT - 8, y + 11, stage);
 }
 
 fn cells(svg: &mut String, panel: &Panel, left: usize) {

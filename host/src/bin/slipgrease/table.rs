@@ -6,7 +6,7 @@ use slipgrease::Point;
 
 /// One run, or two side by side.
 pub fn table(first: &Run, second: Option<&Run>) -> String {
-    match (second, first.offset) {
+    match (second, first.masked) {
         (Some(second), _) => side_by_side(first, second),
         (None, Some(_)) => covered(first),
         (None, None) => plain(first),
@@ -30,7 +30,7 @@ fn plain(run: &Run) -> String {
 fn covered(run: &Run) -> String {
     let masks = run.masks();
     let heading = format!("{:<32}  {:<32}  {:<32}  mask's name", "plain state", "mask", "covered state");
-    let name = |point: Point| run.offset.map_or(String::new(), |offset| point.mask(offset));
+    let name = |point: Point| run.masked.map_or(String::new(), |(offset, step)| point.mask(offset, step));
     let table = rows(heading, |point| {
         let [plain, mask, covered] = [&run.plain, &masks, &run.states].map(|states| digits(state(states, point)));
         format!("{plain}  {mask}  {covered}  {}", name(point))

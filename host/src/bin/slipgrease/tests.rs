@@ -1,5 +1,7 @@
 //! Commands as they are typed. What is expected is from FIPS 197, the scope's own examples, or worked out here.
 
+mod steps;
+
 use super::{help, run, COMMANDS};
 use std::fs;
 
@@ -151,15 +153,19 @@ fn refusals_say_what_was_wrong() {
             "--form 2: the form is neither 0 nor 1 (reply 7, FORM_UNKNOWN)",
             1,
         ),
-        (format!("sheet read {sheet}"), "sheet, argument 2: 5 bytes: the sheet is not 21 bytes long (reply 11, SHEET_LENGTH)", 2),
+        (
+            format!("sheet read {sheet}"),
+            "sheet, argument 2: 5 bytes: the sheet is not 21 bytes long; in version 2, not 22 (reply 11, SHEET_LENGTH)",
+            2,
+        ),
         (
             format!("sheet read 00{}{PUBLISHED}", &sheet[2..]),
             "sheet, argument 2: 21 bytes: the sheet does not begin with its mark, 4d 53 4b (reply 12, MARK_WRONG)",
             2,
         ),
         (
-            format!("sheet read 4d534b0002{PUBLISHED}"),
-            "sheet, argument 2: 21 bytes: the sheet's version is not 1 (reply 13, VERSION_UNKNOWN)",
+            format!("sheet read 4d534b0003{PUBLISHED}"),
+            "sheet, argument 2: 21 bytes: the sheet's version is neither 1 nor 2 (reply 13, VERSION_UNKNOWN)",
             2,
         ),
     ];

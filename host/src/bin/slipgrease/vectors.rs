@@ -4,7 +4,7 @@ use crate::fault::Fault;
 use crate::hex;
 use crate::progress::Progress;
 use crate::words::Words;
-use slipgrease::{Block, Form, Offset, Refusal, Schedule};
+use slipgrease::{Block, Form, Offset, Refusal, Schedule, Step};
 use std::fs;
 use std::io::Write;
 
@@ -17,6 +17,7 @@ struct Vector {
 
 /// A vector that differs is a data fault, found once all have been run.
 pub fn vectors(words: &mut Words, out: &mut dyn Write) -> Result<(), Fault> {
+    let step = words.taken_step()?;
     let (file, _) = words.word("the file of vectors")?;
     words.end()?;
     let text = fs::read_to_string(&file).map_err(|error| Fault::caller(format!("{file}: {error}")))?;
@@ -24,7 +25,7 @@ pub fn vectors(words: &mut Words, out: &mut dyn Write) -> Result<(), Fault> {
     let mut progress = Progress::start("vectors", vectors.len());
     let (mut compared, mut differ) = (0, 0);
     for (done, vector) in vectors.iter().enumerate() {
-        for (what, given, expected) in made(vector) {
+        for (what, given, expected) in made(vector, step) {
             compared += 1;
             if given != expected {
                 differ += 1;
@@ -43,15 +44,15 @@ pub fn vectors(words: &mut Words, out: &mut dyn Write) -> Result<(), Fault> {
 }
 
 /// What each call makes of a vector, and what it should make.
-fn made(vector: &Vector) -> Vec<(String, Block, Block)> {
+fn made(vector: &Vector, step: Step) -> Vec<(String, Block, Block)> {
     let Vector { schedule, block, ciphertext, .. } = vector;
     let mut made = vec![
         ("encrypt".to_string(), schedule.encrypt(block), *ciphertext),
         ("decrypt".to_string(), schedule.decrypt(ciphertext), *block),
     ];
     made.extend(Offset::all().map(|offset| {
-        let masked = schedule.encrypt_published(block, offset, Form::Standard);
-        (format!("mask --offset {}", offset.number()), masked, *ciphertext)
+        let masked = schedule.encrypt_published(block, offset, step, Form::Standard);
+        (format!("mask --offset {} --step {}", offset.number(), step.number()), masked, *ciphertext)
     }));
     made
 }

@@ -2,7 +2,7 @@
 
 use crate::fault::Fault;
 use crate::hex;
-use slipgrease::Refusal;
+use slipgrease::{Refusal, Step};
 use std::io::BufRead;
 
 /// Bytes, what they are called and where they were read.
@@ -29,6 +29,11 @@ pub struct Number {
 }
 
 impl Number {
+    /// The step that was given, and 1 where none was.
+    pub fn step(given: &Option<Number>) -> u8 {
+        given.as_ref().map_or(1, |step| step.value)
+    }
+
     pub fn refused(&self, refusal: Refusal) -> Fault {
         Fault::refused(refusal, &format!("--{} {}", self.what, self.word))
     }
@@ -92,6 +97,12 @@ impl<'a> Words<'a> {
                 Err(_) => Err(self.usage(format!("--{option} {word}: a decimal number is expected"))),
             },
         }
+    }
+
+    /// The step behind --step, of a command whose runs cannot be refused.
+    pub fn taken_step(&mut self) -> Result<Step, Fault> {
+        let number = self.number_of("step")?;
+        number.map_or(Ok(Step::ONE), |number| Step::new(number.value).map_err(|refusal| number.refused(refusal)))
     }
 
     /// The next argument, or the next word of standard input where there is none left.

@@ -18,7 +18,7 @@ returns c =
     let s = shifted .shift-rows .ensures in
     let t = boxed .boxes .ensures in (
       s .0 ∙ ap shiftRows (t .0 ∙ λ i. boxedBy (a .lent .now) (k .1 i) (k .0 i)),
-      s .1 ∙ t .1 ∙ ap (λ (l : ℕ). (l + 1) % 16) (k .1),
+      s .1 ∙ t .1 ∙ ap (λ (l : ℕ). (l + a .masks .1) % 16) (k .1),
       s .2 ∙ t .2 ∙ ap (λ (r : ℕ). r + 1) (k .2),
     )
 

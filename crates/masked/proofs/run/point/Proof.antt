@@ -1,7 +1,7 @@
 -- Each way ends in the step that the point names.
 -- Assumes nothing.
 use mathlib.Core.Path.{_≡_, ap, _∙_}
-use Prim.Native.Nat.{ℕ, suc, _+_, _/_, _%_, _<_}
+use Prim.Native.Nat.{ℕ, suc, _+_, _*_, _/_, _%_, _<_}
 use native.Mathlib.Omega.{arith}
 use borrow.Author.Needs.{needs}
 use Rattle.aes.specs.Key.{roundKey}
@@ -38,7 +38,7 @@ keyed-is c =
     let r-is : a .s .round .0 ≡ a .n / 5 = omega (arith, none, start .pre .2) in (
       λ o end h. (
         rw (after-at (a .n) 0 none) (k .0 ∙ ap (λ (r : ℕ). a .s .bytes ⊞ roundKey (a .w .now) r) r-is),
-        same-label o _ _ _ _ (k .1) (k .2) h,
+        same-label o (a .masks .1) _ _ _ _ (k .1) (k .2) h,
       ),
       stays (a .n) (a .s .round .0) _ 0 (start .pre .2) none (λ e. omega (arith, e)) (k .2),
       k .3,
@@ -56,8 +56,8 @@ boxed-is c =
     let r-is : a .s .round .0 ≡ a .n / 5 = omega (arith, one, start .pre .2) in
     let next : a .s .round .0 + 1 ≡ (a .n + 4) / 5 = omega (arith, one, start .pre .2) in (
       λ o end h. (
-        rw (after-at (a .n) 1 one) (k .0 ∙ ap (λ (l : ℕ). boxedBy (a .lent .now) l (a .s .bytes)) (h ∙ ap (λ (r : ℕ). (o + r) % 16) r-is)),
-        advanced o (a .s .label .0) (a .s .round .0) _ _ (k .1) (k .2) h,
+        rw (after-at (a .n) 1 one) (k .0 ∙ ap (λ (l : ℕ). boxedBy (a .lent .now) l (a .s .bytes)) (h ∙ ap (λ (r : ℕ). (o + a .masks .1 * r) % 16) r-is)),
+        advanced o (a .masks .1) (a .s .label .0) (a .s .round .0) _ _ (k .1) (k .2) h,
       ),
       k .2 ∙ next,
       k .3,
@@ -72,7 +72,7 @@ shifted-is c =
     let a = start .args in
     let k = step .shift-rows .ensures in
     let two : a .n % 5 ≡ 2 = m .match .keys3 in (
-      λ o end h. (rw (after-at (a .n) 2 two) (k .0), same-label o _ _ _ _ (k .1) (k .2) h),
+      λ o end h. (rw (after-at (a .n) 2 two) (k .0), same-label o (a .masks .1) _ _ _ _ (k .1) (k .2) h),
       stays (a .n) (a .s .round .0) _ 2 (start .pre .2) two (λ e. omega (arith, e)) (k .2),
       k .3,
     )
@@ -90,7 +90,7 @@ mixed-is c =
     let three : a .n % 5 ≡ 3 = m .match .keys4 in (
       λ o end h. (
         rw (after-at (a .n) 3 three ∙ not-last r (closed r) (mixed r) (λ e. here .if1 .left (last-mixed (a .n) three e))) (k .0),
-        same-label o _ _ _ _ (k .1) (k .2) h,
+        same-label o (a .masks .1) _ _ _ _ (k .1) (k .2) h,
       ),
       stays (a .n) (a .s .round .0) _ 3 (start .pre .2) three (λ e. omega (arith, e)) (k .2),
       k .3,
@@ -110,8 +110,8 @@ compensated-is c =
     let r-is : a .s .round .0 ≡ suc r = omega (arith, four, start .pre .2) in (
       λ o end h. (
         rw (after-at (a .n) 4 four ∙ not-last r (uncovered r) (compensated r) (before-last (a .n) (start .pre .0) four))
-            (k .0 ∙ ap (λ (l : ℕ). a .s .bytes ⊞ roundKey (a .compensations .now) l) (h ∙ ap (λ (j : ℕ). (o + j) % 16) r-is)),
-        same-label o _ _ _ _ (k .1) (k .2) h,
+            (k .0 ∙ ap (λ (l : ℕ). a .s .bytes ⊞ roundKey (a .compensations .now) l) (h ∙ ap (λ (j : ℕ). (o + a .masks .1 * j) % 16) r-is)),
+        same-label o (a .masks .1) _ _ _ _ (k .1) (k .2) h,
       ),
       stays (a .n) (a .s .round .0) _ 4 (start .pre .2) four (λ e. omega (arith, e)) (k .2),
       k .3,
@@ -129,7 +129,7 @@ closed-is c =
     let r-is : a .s .round .0 ≡ 14 = omega (arith, last, start .pre .2) in (
       λ o end h. (
         rw (ap pointAfter last) (k .0 ∙ ap (λ (r : ℕ). a .s .bytes ⊞ roundKey (a .w .now) r) r-is),
-        same-label o _ _ _ _ (k .1) (k .2) h,
+        same-label o (a .masks .1) _ _ _ _ (k .1) (k .2) h,
       ),
       k .2 ∙ omega (arith, last, start .pre .2),
       k .3,

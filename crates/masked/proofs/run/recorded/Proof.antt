@@ -2,7 +2,7 @@
 -- Assumes nothing.
 use mathlib.Core.List.{List, _∷_}
 use mathlib.Core.Path.{_≡_, refl, ap, _∙_}
-use Prim.Native.Nat.{ℕ, _+_, _-_, _/_, _%_, _≤_, _<_}
+use Prim.Native.Nat.{ℕ, _+_, _-_, _*_, _/_, _%_, _≤_, _<_}
 use native.Mathlib.Omega.{arith}
 use borrow.Author.Needs.{needs}
 use lib.Dec.{lit≤, lit<}
@@ -23,9 +23,9 @@ use Rattle.masked.proofs.run.recorded.Tie as tie
 
 abbrev Inv-loop : tie.InvT-loop
 Inv-loop w masks boxes compensations offset states₀ s₀ n₀ states s n =
-    (s .label .0 ≡ (offset + s .round .0) % 16) × (s .round .0 ≡ (n + 3) / 5)
+    (s .label .0 ≡ (offset + masks .1 * s .round .0) % 16) × (s .round .0 ≡ (n + 3) / 5)
     × ((n ≤ 69) × (length (s₀ .bytes) ≡ 16) × (length states ≡ 1136)
-    × Written (steps w boxes compensations offset (ending 0 (mask (masks .0) ((offset + 14) % 16)))) (s₀ .bytes) 1136 (block ∷ turns after n) (s .bytes) states)
+    × Written (steps w boxes compensations offset (masks .1) (ending 0 (mask (masks .0) 0 ((offset + masks .1 * 14) % 16)))) (s₀ .bytes) 1136 (block ∷ turns after n) (s .bytes) states)
 
 abbrev μ-loop : tie.MeasureT-loop
 μ-loop w masks boxes compensations offset states₀ s₀ n₀ states s n = 69 - n
@@ -37,14 +37,14 @@ begin c =
     let start = covering .before .before .before .before in
     let k = covering .cover .ensures in
     let size : length (covering .cover .result .bytes) ≡ 16 = ap length (k .0) ∙ add-size _ _ in
-    (first-label (start .args .offset) _ _ (k .1) (k .2), k .2, recorded-block (steps-sized _ _ _ _ _) size (start .args .states .now) (start .pre .3) refl (k .3))
+    (first-label (start .args .offset) (start .args .masks .1) _ _ (k .1) (k .2), k .2, recorded-block (steps-sized _ _ _ _ _ _) size (start .args .states .now) (start .pre .3) refl (k .3))
 
 point-lent : tie.Need-point-requires Inv-loop μ-loop
 point-lent c κs =
     let at-loop = c .before .before in
     let l = at-loop .loop in
     let start = at-loop .before .before .before .before .before .before .before in
-    (c .before .loop-test .taken, label-below (start .args .offset + l .s .round .0) _ (l .inv .0), l .inv .1, start .pre .0, start .pre .1, start .pre .2, search needs)
+    (c .before .loop-test .taken, label-below _ _ (l .inv .0), l .inv .1, start .pre .0, start .pre .1, start .pre .2, search needs)
 
 again : tie.Need-loop-again Inv-loop μ-loop
 again c =
@@ -57,7 +57,7 @@ again c =
     let made = k .0 _ _ (l .inv .0) in (
       made .1,
       k .1 ∙ ap (λ (m : ℕ). m / 5) (omega arith),
-      recorded-so-far (one-more lt) (h .1) (after-written (steps-sized _ _ _ _ _) (h .1) (l .n) (omega (arith, lt)) (h .3) (made .0) (k .2)),
+      recorded-so-far (one-more lt) (h .1) (after-written (steps-sized _ _ _ _ _ _) (h .1) (l .n) (omega (arith, lt)) (h .3) (made .0) (k .2)),
     )
 
 -- the round at the end
@@ -70,7 +70,7 @@ uncovered-lent c κs =
     let l = at-loop .loop in
     let start = at-loop .before .before .before .before .before .before .before in
     let turned : l .n ≡ 69 = ended (l .inv .2 .0) (c .before .loop-test .left) in
-    (label-below (start .args .offset + l .s .round .0) _ (l .inv .0), last-round (l .n) _ (l .inv .1) turned, search needs)
+    (label-below _ _ (l .inv .0), last-round (l .n) _ (l .inv .1) turned, search needs, start .pre .4)
 
 returns : tie.Need-returns Inv-loop μ-loop
 unfolding steps pointAfter
@@ -88,12 +88,12 @@ returns c =
     let m : Bytes 16 (a .masks .0) = field-bytes {xs = a .masks .0} (start .good .1 .1 .0 .1 .1 .0) in
     let w : Bytes 240 (a .w .now) = record { size = start .pre .0; byte = λ i. byte (at (a .w .now) i) (known .shared-slice-known .given i) } in
     let turned : l .n ≡ 69 = ended (h .0) (done .loop-test .left) in
-    let label : l .s .label .0 ≡ (a .offset + 14) % 16 = l .inv .0 ∙ ap (λ (r : ℕ). (a .offset + r) % 16) (last-round (l .n) _ (l .inv .1) turned) in
-    written-whole (steps-sized _ _ _ _ _) (h .1) after 70 after-all 70 (lit≤ tt) (lit≤ tt)
-    (after-written (steps-sized _ _ _ _ _) (h .1) 69 (lit< tt) (rw turned at (h .3)) refl
-    (finished .uncover .ensures ∙ ap (λ (j : ℕ). l .s .bytes ⊞ ending 0 (mask (a .masks .0) j)) label))
+    let label : l .s .label .0 ≡ (a .offset + a .masks .1 * 14) % 16 = l .inv .0 ∙ ap (λ (r : ℕ). (a .offset + a .masks .1 * r) % 16) (last-round (l .n) _ (l .inv .1) turned) in
+    written-whole (steps-sized _ _ _ _ _ _) (h .1) after 70 after-all 70 (lit≤ tt) (lit≤ tt)
+    (after-written (steps-sized _ _ _ _ _ _) (h .1) 69 (lit< tt) (rw turned at (h .3)) refl
+    (finished .uncover .ensures ∙ ap (λ (j : ℕ). l .s .bytes ⊞ ending 0 (mask (a .masks .0) 0 j)) label))
     ∙ ap bytes
-    (lent-record m w 0 (a .offset) b (covering .cover .result .bytes) (a .boxes .now) (a .compensations .now) (ending 0 (mask (a .masks .0) ((a .offset + 14) % 16)))
+    (lent-record m w 0 (a .offset) (a .masks .1) b (covering .cover .result .bytes) (a .boxes .now) (a .compensations .now) (ending 0 (mask (a .masks .0) 0 ((a .offset + a .masks .1 * 14) % 16)))
     (covering .cover .ensures .0) (start .pre .1) (start .pre .2) refl)
 
 pub recorded-spec : {M : Type 1} → statement M

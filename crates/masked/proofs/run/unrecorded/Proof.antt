@@ -2,7 +2,7 @@
 -- Assumes nothing.
 use mathlib.Core.List.{List, [], _∷_, _++_, append-assoc}
 use mathlib.Core.Path.{_≡_, refl, sym, ap, _∙_}
-use Prim.Native.Nat.{ℕ, suc, _+_, _-_, _%_, _<_}
+use Prim.Native.Nat.{ℕ, suc, _+_, _-_, _*_, _%_, _<_}
 use native.Mathlib.Omega.{arith}
 use borrow.Author.Needs.{needs}
 use borrow.Author.Tests.{eqb-true, eqb-false, not-true, not-false}
@@ -38,21 +38,21 @@ unfolding points
 all-begun = append-assoc (block ∷ wholes 13) (half 13) (closed 13 ∷ uncovered 13 ∷ [])
 
 -- the constant of a run's end
-abbrev end : ℕ → List ℕ → ℕ → List ℕ
-end form M o = ending form (mask M ((o + 14) % 16))
+abbrev end : ℕ → List ℕ → ℕ → ℕ → List ℕ
+end form M o d = ending form (mask M 0 ((o + d * 14) % 16))
 
 -- the first half goes on from the covered block
-first-begun : (w b c : List ℕ) (o : ℕ) (e s : List ℕ) (l r : ℕ) (t : List ℕ) → l ≡ o % 16 → r ≡ 0 → t ≡ shiftRows (boxedBy b l (s ⊞ roundKey w r))
-    → t ≡ last s (run (steps w b c o e) s (begun 0))
+first-begun : (w b c : List ℕ) (o d : ℕ) (e s : List ℕ) (l r : ℕ) (t : List ℕ) → l ≡ o % 16 → r ≡ 0 → t ≡ shiftRows (boxedBy b l (s ⊞ roundKey w r))
+    → t ≡ last s (run (steps w b c o d e) s (begun 0))
 unfolding wholes run last steps
-first-begun w b c o e s l r t hl hr ht = ht ∙ λ i. shiftRows (boxedBy b ((hl ∙ first-label o (o % 16) 0 refl refl) i) (s ⊞ roundKey w (hr i)))
+first-begun w b c o d e s l r t hl hr ht = ht ∙ λ i. shiftRows (boxedBy b ((hl ∙ first-label o d (o % 16) 0 refl refl) i) (s ⊞ roundKey w (hr i)))
 
 abbrev Inv-loop : tie.InvT-loop
 Inv-loop w masks boxes compensations offset form output part t₀ t =
-    (t .label .0 ≡ (offset + t .round .0) % 16) × (0 < t .round .0) × (t .round .0 < 15)
+    (t .label .0 ≡ (offset + masks .1 * t .round .0) % 16) × (0 < t .round .0) × (t .round .0 < 15)
     × ((s : List ℕ)
-    → t₀ .bytes ≡ last s (run (steps w boxes compensations offset (end form (masks .0) offset)) s (begun 0))
-    → t .bytes ≡ last s (run (steps w boxes compensations offset (end form (masks .0) offset)) s (begun (t .round .0 - 1))))
+    → t₀ .bytes ≡ last s (run (steps w boxes compensations offset (masks .1) (end form (masks .0) offset (masks .1))) s (begun 0))
+    → t .bytes ≡ last s (run (steps w boxes compensations offset (masks .1) (end form (masks .0) offset (masks .1))) s (begun (t .round .0 - 1))))
 
 abbrev μ-loop : tie.MeasureT-loop
 μ-loop w masks boxes compensations offset form output part t₀ t = 14 - t .round .0
@@ -67,9 +67,11 @@ begin : tie.Need-loop-holds Inv-loop μ-loop
 begin c =
     let k = c .before .before .cover .ensures in
     let h = c .half .ensures in
-    let o : ℕ = c .before .before .before .before .before .before .args .offset in
+    let a = c .before .before .before .before .before .before .args in
+    let o : ℕ = a .offset in
+    let d : ℕ = a .masks .1 in
     let one : c .half .result .round .0 ≡ 1 = h .2 ∙ ap (λ (r : ℕ). r + 1) (k .2) in
-    (advanced o _ _ _ _ (h .1) (h .2) (first-label o _ _ (k .1) (k .2)), rw one (lit< tt), rw one (lit< tt), λ s e. rw one e)
+    (advanced o d _ _ _ _ (h .1) (h .2) (first-label o d _ _ (k .1) (k .2)), rw one (lit< tt), rw one (lit< tt), λ s e. rw one e)
 
 -- a state that is not finished has a round before it
 unfinished : (r : ℕ) → r < 15 → (r ≡ 14 → ⊥) → r < 14
@@ -126,12 +128,12 @@ again c =
     let n : ℕ = l .t .round .0 in
     let r : ℕ = n - 1 in
     let lt = unfinished n (l .inv .2) (eqb-false _ 14 (sym (test .before .finished .ensures) ∙ not-true _ (test .if1 .taken))) in
-    let f = steps (a .w .now) (a .boxes .now) (a .compensations .now) (a .offset) (end (a .form) (a .masks .0) (a .offset)) in
+    let f = steps (a .w .now) (a .boxes .now) (a .compensations .now) (a .offset) (a .masks .1) (end (a .form) (a .masks .0) (a .offset) (a .masks .1)) in
     let n-is : n ≡ suc r = before-it n (l .inv .1) in
-    let label : l .t .label .0 ≡ (a .offset + suc r) % 16 = l .inv .0 ∙ ap (λ (m : ℕ). (a .offset + m) % 16) n-is in
+    let label : l .t .label .0 ≡ (a .offset + a .masks .1 * suc r) % 16 = l .inv .0 ∙ ap (λ (m : ℕ). (a .offset + a .masks .1 * m) % 16) n-is in
     let reached = h .0 ∙ λ i. shiftRows (boxedBy (a .boxes .now) ((k .1 ∙ label) i) ((k .0 ∙ λ j. mixColumns (l .t .bytes) ⊞ roundKey (a .compensations .now) (label j)) i ⊞ roundKey (a .w .now) ((k .2 ∙ n-is) i))) in
     let count = counted n (rest .rest .result .round .0) (c .half2 .result .round .0) lt (k .2) (h .2) in (
-      advanced (a .offset) _ _ _ _ (h .1) (h .2) (same-label (a .offset) _ _ _ _ (k .1) (k .2) (l .inv .0)),
+      advanced (a .offset) (a .masks .1) _ _ _ _ (h .1) (h .2) (same-label (a .offset) (a .masks .1) _ _ _ _ (k .1) (k .2) (l .inv .0)),
       count .0,
       count .1,
       λ s e. rw (one-on n (rest .rest .result .round .0) (c .half2 .result .round .0) (l .inv .1) (k .2) (h .2))
@@ -152,7 +154,7 @@ uncovered-lent c κs =
     let at-loop = exit .before .before in
     let k = key .add-key .ensures in
     let start = at-loop .before .before .before .before .before .before .before in
-    (label-below _ _ (k .1 ∙ at-loop .loop .inv .0), k .2 ∙ eqb-true _ 14 (sym (exit .before .finished .ensures) ∙ not-false _ (exit .if1 .left)), start .pre .3)
+    (label-below _ _ (k .1 ∙ at-loop .loop .inv .0), k .2 ∙ eqb-true _ 14 (sym (exit .before .finished .ensures) ∙ not-false _ (exit .if1 .left)), start .pre .3, start .pre .4)
 
 sixteen-written : tie.Need-same-length Inv-loop μ-loop
 sixteen-written c =
@@ -176,21 +178,21 @@ returns c =
     let start = known .before in
     let a = start .args in
     let s : List ℕ = covering .cover .result .bytes in
-    let constant : List ℕ = end (a .form) (a .masks .0) (a .offset) in
-    let f = steps (a .w .now) (a .boxes .now) (a .compensations .now) (a .offset) constant in
+    let constant : List ℕ = end (a .form) (a .masks .0) (a .offset) (a .masks .1) in
+    let f = steps (a .w .now) (a .boxes .now) (a .compensations .now) (a .offset) (a .masks .1) constant in
     let b : Bytes 16 (a .block .0) = field-bytes {xs = a .block .0} (start .good .0 .1 .1 .0) in
     let m : Bytes 16 (a .masks .0) = field-bytes {xs = a .masks .0} (start .good .1 .1 .0 .1 .1 .0) in
     let w : Bytes 240 (a .w .now) = record { size = start .pre .0; byte = λ i. byte (at (a .w .now) i) (known .shared-slice-known .given i) } in
     let k = covering .cover .ensures in
-    let begun-first = first-begun (a .w .now) (a .boxes .now) (a .compensations .now) (a .offset) constant s _ _ _ (k .1) (k .2) (first .half .ensures .0) in
+    let begun-first = first-begun (a .w .now) (a .boxes .now) (a .compensations .now) (a .offset) (a .masks .1) constant s _ _ _ (k .1) (k .2) (first .half .ensures .0) in
     let over : l .t .round .0 ≡ 14 = eqb-true _ 14 (sym (asked .finished .ensures) ∙ not-false _ (exit .if1 .left)) in
-    let label : key .add-key .result .label .0 ≡ (a .offset + 14) % 16 = key .add-key .ensures .1 ∙ l .inv .0 ∙ ap (λ (n : ℕ). (a .offset + n) % 16) over in
+    let label : key .add-key .result .label .0 ≡ (a .offset + a .masks .1 * 14) % 16 = key .add-key .ensures .1 ∙ l .inv .0 ∙ ap (λ (n : ℕ). (a .offset + a .masks .1 * n) % 16) over in
     reached-more f (begun 13) (closed 13 ∷ uncovered 13 ∷ []) s (l .t .bytes) _ (rw over at (l .inv .3 s begun-first))
-    (closing .uncover .ensures ∙ λ i. (key .add-key .ensures .0 ∙ λ j. l .t .bytes ⊞ roundKey (a .w .now) (over j)) i ⊞ ending (a .form) (mask (a .masks .0) (label i)))
+    (closing .uncover .ensures ∙ λ i. (key .add-key .ensures .0 ∙ λ j. l .t .bytes ⊞ roundKey (a .w .now) (over j)) i ⊞ ending (a .form) (mask (a .masks .0) 0 (label i)))
     ∙ ap (λ (ps : List Point). last s (run f s ps)) all-begun
     ∙ last-any f s (a .block .0) s block (wholes 13 ++ final 13)
     ∙ ap (last (a .block .0))
-    (lent-record m w (a .form) (a .offset) b s (a .boxes .now) (a .compensations .now) constant (k .0) (start .pre .1) (start .pre .2) refl)
+    (lent-record m w (a .form) (a .offset) (a .masks .1) b s (a .boxes .now) (a .compensations .now) constant (k .0) (start .pre .1) (start .pre .2) refl)
 
 pub unrecorded-spec : {M : Type 1} → statement M
 unrecorded-spec =

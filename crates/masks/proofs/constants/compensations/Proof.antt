@@ -11,8 +11,9 @@ use Rattle.aes.specs.Byte.{table}
 use Rattle.aes.specs.Held.{Holds}
 use Rattle.aes.proofs.Listed.{table-length}
 use Rattle.aes.proofs.Part.{holds-all}
-use Rattle.masks.specs.Mask.{compensation, allCompensations}
+use Rattle.masks.specs.Mask.{allCompensations}
 use Rattle.masks.proofs.Row.{ended}
+use Rattle.masks.proofs.Stored.{constant}
 use Rattle.masks.proofs.Columns.{rowByte, first-four, all-sixteen, twelve, four}
 use Rattle.masks.proofs.constants.compensations.Statement.{statement}
 use Rattle.masks.proofs.constants.compensations.Tie as tie
@@ -20,7 +21,7 @@ use Rattle.masks.proofs.constants.compensations.Tie as tie
 abbrev Inv-loop : tie.InvT-loop
 Inv-loop r₀ y₀ r y =
     (64 ≤ y) × (y ≤ 256) × (y % 16 ≡ 0) × (length r ≡ 256)
-    × ((M : List ℕ) → Holds 256 (table (rowByte (compensation M)) 64) r₀ → Holds 256 (table (rowByte (compensation M)) y) r)
+    × ((M : List ℕ) → Holds 256 (table (rowByte (constant M)) 64) r₀ → Holds 256 (table (rowByte (constant M)) y) r)
 
 abbrev μ-loop : tie.MeasureT-loop
 μ-loop r₀ y₀ r y = 256 - y
@@ -55,8 +56,8 @@ again c =
       omega (arith, l .inv .2),
       c .moved2 .ensures .0 ∙ first .moved .ensures .0 ∙ l .inv .3,
       λ M h.
-          rw next at (c .moved2 .ensures .1 256 (rowByte (compensation M))
-          (first .moved .ensures .1 256 (rowByte (compensation M)) (l .inv .4 M h) (λ i hi. twelve M y i (l .inv .0) (l .inv .2) hi))
+          rw next at (c .moved2 .ensures .1 256 (rowByte (constant M))
+          (first .moved .ensures .1 256 (rowByte (constant M)) (l .inv .4 M h) (λ i hi. twelve M y i (l .inv .0) (l .inv .2) hi))
           (λ i hi. four M y i (l .inv .0) (l .inv .2) hi)),
     )
 
@@ -66,8 +67,8 @@ returns c =
     let made = c .before .before in
     let M : List ℕ = made .before .before .args .masks in
     let e : l .y ≡ 256 = ended (l .inv .1) (c .loop-test .left) in
-    let all : Holds 256 (table (rowByte (compensation M)) 256) (l .r) = rw e at (l .inv .4 M (rw (first-four M) at (made .first-four .ensures))) in
-    holds-all 256 _ (l .r) all (table-length (rowByte (compensation M)) 256) ∙ sym (all-sixteen M)
+    let all : Holds 256 (table (rowByte (constant M)) 256) (l .r) = rw e at (l .inv .4 M (rw (first-four M) at (made .first-four .ensures))) in
+    holds-all 256 _ (l .r) all (table-length (rowByte (constant M)) 256) ∙ sym (all-sixteen M)
 
 pub compensations-spec : {M : Type 1} → statement M
 compensations-spec =

@@ -9,26 +9,27 @@ use borrow.Author.Needs.{needs}
 use lib.Dec.{lit≤}
 use lib.ListN.{length}
 use Rattle.aes.specs.Byte.{table}
-use Rattle.aes.specs.State.{at}
+use Rattle.aes.specs.State.{at, state}
 use Rattle.aes.specs.Held.{Holds}
 use Rattle.aes.proofs.Part.{holds-none}
 use Rattle.aes.proofs.Xor.{xor-zero}
-use Rattle.masks.specs.Mask.{inRow, compensation}
+use Rattle.masks.specs.Mask.{inRow, twice, compensation}
 use Rattle.masks.proofs.Row.{one-more, ended, row-label}
-use Rattle.masks.proofs.Stored.{compensation-size}
+use Rattle.masks.proofs.Stored.{constant, compensation-size, laid-out}
 use Rattle.masks.proofs.Columns.{rowByte, first-four}
 use Rattle.masks.proofs.constants.first_four.Statement.{statement}
 use Rattle.masks.proofs.constants.first_four.Tie as tie
 
 abbrev Inv-loop : tie.InvT-loop
-Inv-loop masks r₀ l₀ n₀ r l n = (n ≤ 4) × (l .0 ≡ n % 16) × (length r ≡ 256) × Holds 256 (table (rowByte (compensation masks)) (16 * n)) r
+Inv-loop r₀ masks l₀ n₀ r l n =
+    (n ≤ 4) × (l .0 ≡ n % 16) × (length r ≡ 256) × ((M : List ℕ) → masks ≡ twice M → Holds 256 (table (rowByte (constant M)) (16 * n)) r)
 
 abbrev μ-loop : tie.MeasureT-loop
-μ-loop masks r₀ l₀ n₀ r l n = 4 - n
+μ-loop r₀ masks l₀ n₀ r l n = 4 - n
 
 begin : tie.Need-loop-holds Inv-loop μ-loop
 unfolding table
-begin c = (lit≤ tt, refl, c .before .pre, holds-none 256 _ (c .before .pre))
+begin c = let start = c .before .before in (lit≤ tt, refl, start .pre, λ M e. holds-none 256 _ (start .pre))
 
 small : (n : ℕ) → n < 4 → n % 16 ≡ n
 small n lt = omega (arith, lt)
@@ -50,7 +51,6 @@ again c =
     let made = stored .before .before .before in
     let in-loop = made .before in
     let l = in-loop .before .loop in
-    let M : List ℕ = in-loop .before .before .before .args .masks in
     let n : ℕ = l .n in
     let lt : n < 4 = in-loop .loop-test .taken in
     let label : l .l .0 ≡ n = l .inv .1 ∙ small n lt in
@@ -58,17 +58,21 @@ again c =
       one-more lt,
       c .next .ensures .0 ∙ row-label (l .l .0) n (l .inv .1),
       stored .row .ensures .0 ∙ l .inv .2,
-      rw next at (stored .row .ensures .1 256 (rowByte (compensation M)) (l .inv .3)
-          (λ i hi. xor-zero _ ∙ ap₂ at (made .compensation .ensures ∙ ap (compensation M) label) (zero-add i) ∙ ap₂ (λ (j k : ℕ). at (compensation M j) k) (omega (arith, hi)) (omega (arith, hi)))),
+      λ M e.
+          let from : List ℕ → List ℕ = λ t. compensation (state (λ i. at t (l .l .0 % 16 + i))) in
+          rw next at (stored .row .ensures .1 256 (rowByte (constant M)) (l .inv .3 M e)
+          (λ i hi. xor-zero _ ∙ ap₂ at (made .compensation .ensures ∙ ap from e ∙ ap compensation (laid-out M (l .l .0)) ∙ ap (constant M) label) (zero-add i) ∙ ap₂ (λ (j k : ℕ). at (constant M j) k) (omega (arith, hi)) (omega (arith, hi)))),
     )
 
 returns : tie.Need-returns Inv-loop μ-loop
 returns c =
     let l = c .before .loop in
     let e : l .n ≡ 4 = ended (l .inv .0) (c .loop-test .left) in
-    rw (first-four (c .before .before .before .args .masks)) (rw e at (l .inv .3))
+    let made = c .before .before in
+    let M : List ℕ = made .before .before .args .masks in
+    rw (first-four M) (rw e at (l .inv .3 M (made .twice .ensures)))
 
 pub first-four-spec : {M : Type 1} → statement M
 first-four-spec =
     tie.close
-    (tie.spec Inv-loop μ-loop begin (λ c κs. search needs) (λ c. search needs) (λ c. search needs) row-lent (λ c κs. search needs) (λ c. search needs) (λ c. search needs) again (λ c. search needs) returns)
+    (tie.spec Inv-loop μ-loop (λ c κs. search needs) begin (λ c κs. search needs) (λ c. search needs) (λ c. search needs) row-lent (λ c κs. search needs) (λ c. search needs) (λ c. search needs) again (λ c. search needs) returns)

@@ -4,12 +4,12 @@ use mathlib.Core.List.{List, []}
 use mathlib.Core.Path.{_≡_, sym, ap, _∙_}
 use Prim.Native.Nat.{ℕ}
 use borrow.Author.Needs.{needs}
-use Rattle.aes.specs.Reply.{Check}
-use Rattle.aes.proofs.Replies.{telling}
+use Rattle.aes.specs.Reply.{Check, refusal}
+use Rattle.aes.proofs.Replies.{telling, refused, passed}
 use Rattle.masks.specs.Mask.{published, maskedBoxes, allCompensations}
 use Rattle.masked.specs.Run.{maskedCipher}
-use Rattle.masked.specs.Calls.{publishedChecks, refusal}
-use Rattle.masked.proofs.Checked.{refused, passed, published-refusal, sizes}
+use Rattle.masked.specs.Calls.{publishedChecks}
+use Rattle.masked.proofs.Checked.{published-refusal, sizes}
 use Rattle.masked.proofs.calls.encrypt.encrypt_published.Statement.{statement}
 use Rattle.masked.proofs.calls.encrypt.encrypt_published.Tie as tie
 
@@ -17,29 +17,35 @@ returns : tie.Need-returns
 returns c =
     let told = c .before in
     let a = told .before .before .before .before .before .args in
-    let cs : List Check = publishedChecks (a .schedule .now) (a .input .now) (a .output .now) (a .offset) (a .form) in
-    let reply : told .refusal .result ≡ refusal cs = told .refusal .ensures ∙ published-refusal (a .schedule .now) (a .input .now) (a .output .now) (a .offset) (a .form) in
+    let cs : List Check = publishedChecks (a .schedule .now) (a .input .now) (a .output .now) (a .offset) (a .step) (a .form) in
+    let reply : told .refusal .result ≡ refusal cs = told .refusal .ensures ∙ published-refusal (a .schedule .now) (a .input .now) (a .output .now) (a .offset) (a .step) (a .form) in
     refused (a .output .now) _ [] cs reply (c .if1 .taken)
 
 block-lent : tie.Need-lent-requires
 block-lent c κs =
-    let passed-on = c .before .before .before in
+    let passed-on = c .before .before .before .before .before in
     let a = passed-on .before .before .before .before .before .before .args in
-    sizes (a .schedule .now) (a .input .now) (a .output .now) (a .input .now) (a .offset) (a .form) (passed-on .before .refusal .ensures) (passed-on .if1 .left) .input
+    sizes (a .schedule .now) (a .input .now) (a .output .now) (a .input .now) (a .offset) (a .step) (a .form) (passed-on .before .refusal .ensures) (passed-on .if1 .left) .input
 
 -- what is stored is of the published masks, which are the ones at hand
+stepped-lent : tie.Need-stepped-requires
+stepped-lent c κs =
+    let boxes = c .before in
+    boxes .boxes .ensures ∙ ap (λ (M : List ℕ). maskedBoxes M 1) (sym (boxes .before .published .ensures .0))
+
 lent : tie.Need-unrecorded-requires
 lent c κs =
     let constants = c .before .before .before .before in
     let boxes = constants .before in
-    let masks = boxes .before in
+    let masks = boxes .before .before .before in
     let passed-on = masks .before in
     let a = passed-on .before .before .before .before .before .before .args in
-    let s = sizes (a .schedule .now) (a .input .now) (a .output .now) (a .input .now) (a .offset) (a .form) (passed-on .before .refusal .ensures) (passed-on .if1 .left) in (
+    let s = sizes (a .schedule .now) (a .input .now) (a .output .now) (a .input .now) (a .offset) (a .step) (a .form) (passed-on .before .refusal .ensures) (passed-on .if1 .left) in (
       s .schedule,
-      boxes .boxes .ensures ∙ ap maskedBoxes (sym (masks .published .ensures)),
-      constants .stored-compensations .ensures ∙ ap allCompensations (sym (masks .published .ensures)),
+      boxes .stepped .ensures,
+      constants .stored-compensations .ensures ∙ ap allCompensations (sym (masks .published .ensures .0)),
       s .output,
+      masks .published .ensures .2,
     )
 
 returns-2 : tie.Need-returns-2
@@ -47,13 +53,13 @@ unfolding telling
 returns-2 c =
     let run = c .before .before in
     let block = run .before .before .before .before in
-    let masks = block .before .before .before in
+    let masks = block .before .before .before .before .before in
     let told = masks .before .before in
     let a = told .before .before .before .before .before .args in
-    let cs : List Check = publishedChecks (a .schedule .now) (a .input .now) (a .output .now) (a .offset) (a .form) in
-    let reply : told .refusal .result ≡ refusal cs = told .refusal .ensures ∙ published-refusal (a .schedule .now) (a .input .now) (a .output .now) (a .offset) (a .form) in
-    (λ i. (0, (run .unrecorded .ensures ∙ λ j. maskedCipher 14 (a .form) (masks .published .ensures j) (a .offset) (a .schedule .now) (block .lent .ensures j)) i))
+    let cs : List Check = publishedChecks (a .schedule .now) (a .input .now) (a .output .now) (a .offset) (a .step) (a .form) in
+    let reply : told .refusal .result ≡ refusal cs = told .refusal .ensures ∙ published-refusal (a .schedule .now) (a .input .now) (a .output .now) (a .offset) (a .step) (a .form) in
+    (λ i. (0, (run .unrecorded .ensures ∙ λ j. maskedCipher 14 (a .form) (masks .published .ensures .0 j) (a .offset) (masks .published .ensures .1 j) (a .schedule .now) (block .lent .ensures j)) i))
     ∙ passed (a .output .now) _ [] cs tt reply (masks .before .if1 .left)
 
 pub encrypt-published-spec : {M : Type 1} → statement M
-encrypt-published-spec = tie.close (tie.spec (λ c κs. search needs) (λ c. search needs) returns (λ c κs. search needs) (λ c κs. search needs) (λ c κs. search needs) block-lent lent (λ c. search needs) returns-2)
+encrypt-published-spec = tie.close (tie.spec (λ c κs. search needs) (λ c. search needs) returns (λ c κs. search needs) (λ c κs. search needs) stepped-lent (λ c κs. search needs) block-lent lent (λ c. search needs) returns-2)

@@ -1,5 +1,6 @@
 -- The checks in their order.
 -- Assumes nothing.
+use borrow.Author.Needs.{needs}
 use borrow.Author.Tests.{eq-eqb, ne-eqb, le-leb, lt-leb}
 use Rattle.masked.proofs.calls.encrypt.refusal.Statement.{statement}
 use Rattle.masked.proofs.calls.encrypt.refusal.Tie as tie
@@ -34,15 +35,7 @@ returns-6 c =
     let masks = offset .before in
     let output = masks .before in
     let input = output .before in
-    simp (eq-eqb _ 240 (input .before .if1 .left), eq-eqb _ 16 (input .if2 .left), eq-eqb _ 16 (output .if3 .left), eq-eqb _ 16 (masks .if4 .left), le-leb _ 15 (offset .if5 .left), lt-leb _ 1 (c .if6 .taken))
-
-returns-7 : tie.Need-returns-7
-returns-7 c =
-    let offset = c .before in
-    let masks = offset .before in
-    let output = masks .before in
-    let input = output .before in
-    simp (eq-eqb _ 240 (input .before .if1 .left), eq-eqb _ 16 (input .if2 .left), eq-eqb _ 16 (output .if3 .left), eq-eqb _ 16 (masks .if4 .left), le-leb _ 15 (offset .if5 .left), le-leb _ 1 (c .if6 .left))
+    simp (eq-eqb _ 240 (input .before .if1 .left), eq-eqb _ 16 (input .if2 .left), eq-eqb _ 16 (output .if3 .left), eq-eqb _ 16 (masks .if4 .left), le-leb _ 15 (offset .if5 .left)) (c .refusal .ensures)
 
 pub refusal-spec : {M : Type 1} → statement M
-refusal-spec = tie.close (tie.spec returns returns-2 returns-3 returns-4 returns-5 returns-6 returns-7)
+refusal-spec = tie.close (tie.spec returns returns-2 returns-3 returns-4 returns-5 (λ c κs. search needs) returns-6)

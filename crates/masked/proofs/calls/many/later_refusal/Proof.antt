@@ -16,10 +16,10 @@ use Rattle.masked.proofs.calls.many.later_refusal.Statement.{statement}
 use Rattle.masked.proofs.calls.many.later_refusal.Tie as tie
 
 abbrev Inv-loop : tie.InvT-loop
-Inv-loop offsets form k₀ k = (k ≤ length offsets) × (below k (λ j. leb (at offsets j) 15) ≡ true)
+Inv-loop offsets step form k₀ k = (k ≤ length offsets) × (below k (λ j. leb (at offsets j) 15) ≡ true)
 
 abbrev μ-loop : tie.MeasureT-loop
-μ-loop offsets form k₀ k = length offsets - k
+μ-loop offsets step form k₀ k = length offsets - k
 
 begin : tie.Need-loop-holds Inv-loop μ-loop
 unfolding below
@@ -28,7 +28,7 @@ begin c = (search needs, refl)
 returns : tie.Need-returns Inv-loop μ-loop
 returns c =
     let loop = c .before .before .before in
-    let a = loop .before .args in
+    let a = loop .before .before .args in
     simp (below-not (λ j. leb (at (a .offsets .now) j) 15) (length (a .offsets .now)) (loop .loop .k) (search needs) (lt-leb _ 15 (c .if1 .taken)))
 
 again : tie.Need-loop-again Inv-loop μ-loop
@@ -43,17 +43,12 @@ passed-all offsets k le ge low = rw (← ended le ge) low
 
 returns-2 : tie.Need-returns-2 Inv-loop μ-loop
 returns-2 c =
-    let loop = c .before .before in
-    let a = loop .before .args in
-    simp (passed-all (a .offsets .now) (loop .loop .k) (loop .loop .inv .0) (c .before .loop-test .left) (loop .loop .inv .1), lt-leb (a .form) 1 (c .if2 .taken))
-
-returns-3 : tie.Need-returns-3 Inv-loop μ-loop
-returns-3 c =
-    let loop = c .before .before in
-    let a = loop .before .args in
-    simp (passed-all (a .offsets .now) (loop .loop .k) (loop .loop .inv .0) (c .before .loop-test .left) (loop .loop .inv .1), le-leb (a .form) 1 (c .if2 .left))
+    let left = c .before in
+    let loop = left .before in
+    let a = loop .before .before .args in
+    simp (passed-all (a .offsets .now) (loop .loop .k) (loop .loop .inv .0) (left .loop-test .left) (loop .loop .inv .1)) (c .refusal .ensures)
 
 pub later-refusal-spec : {M : Type 1} → statement M
 later-refusal-spec =
     tie.close
-    (tie.spec Inv-loop μ-loop begin (λ c. search needs) returns (λ c. search needs) (λ c. search needs) again returns-2 returns-3)
+    (tie.spec Inv-loop μ-loop begin (λ c. search needs) returns (λ c. search needs) (λ c. search needs) again (λ c κs. search needs) returns-2)

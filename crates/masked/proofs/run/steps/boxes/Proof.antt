@@ -12,7 +12,7 @@ returns c =
     let round = answers .before in
     let label = round .before in
     let k = kept .kept .ensures in
-    (k .0 ∙ answers .answers .ensures, k .1 ∙ label .next .ensures .0, k .2 ∙ round .next2 .ensures, k .3)
+    (k .0 ∙ answers .answers .ensures, k .1 ∙ label .advanced .ensures .0, k .2 ∙ round .next .ensures, k .3)
 
 pub boxes-spec : {M : Type 1} → statement M
 boxes-spec = tie.close (tie.spec (λ c κs. search needs) (λ c κs. search needs) (λ c κs. search needs) (λ c κs. search needs) (λ c. search needs) returns)

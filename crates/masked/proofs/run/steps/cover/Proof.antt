@@ -14,7 +14,7 @@ returns c =
     let under = kept .before .before in
     let make = under .before in
     let a = make .before .before .args in
-    let covered = under .under .ensures ∙ ap (λ (l : ℕ). a .block .0 ⊞ mask (a .masks .0) l) (make .make .ensures) in
+    let covered = under .under .ensures ∙ ap (λ (l : ℕ). a .block .0 ⊞ mask (a .masks .0) 0 l) (make .make .ensures) in
     (kept .kept .ensures .0 ∙ covered, kept .kept .ensures .1 ∙ make .make .ensures, kept .kept .ensures .2, kept .kept .ensures .3)
 
 pub cover-spec : {M : Type 1} → statement M

@@ -1,6 +1,6 @@
 -- Sixteen bytes are all of sixteen.
 -- Assumes nothing.
-use mathlib.Core.Path.{_∙_}
+use mathlib.Core.Path.{refl, _∙_}
 use borrow.Author.Needs.{needs}
 use Rattle.masked.proofs.Checked.{all-sixteen}
 use Rattle.masked.proofs.calls.lent.Masks.lent.Statement.{statement}
@@ -8,8 +8,9 @@ use Rattle.masked.proofs.calls.lent.Masks.lent.Tie as tie
 
 returns : tie.Need-returns
 returns c =
-    let start = c .before .before in
-    c .sixteen .ensures ∙ all-sixteen (start .args .masks .now) (start .pre)
+    let block = c .before in
+    let start = block .before .before in
+    (block .sixteen .ensures ∙ all-sixteen (start .args .masks .now) (start .pre), refl, c .twice .ensures)
 
 pub lent-spec : {M : Type 1} → statement M
-lent-spec = tie.close (tie.spec (λ c κs. search needs) returns)
+lent-spec = tie.close (tie.spec (λ c κs. search needs) (λ c κs. search needs) returns)

@@ -1,0 +1,31 @@
+// Vectors of a key and two blocks.
+use crate::text::part;
+use crate::text::read_hex;
+use check::same;
+
+// What a line has, and whether it could be read.
+pub struct Vector {
+    pub read: bool,
+    pub key: [u8; 32],
+    pub plain: [u8; 16],
+    pub cipher: [u8; 16],
+}
+
+pub fn read(line: &[u8]) -> Vector {
+    let mut key = [0u8; 32];
+    let mut plain = [0u8; 16];
+    let mut cipher = [0u8; 16];
+    let first = read_hex(part(line, 0, b' '), &mut key);
+    let second = read_hex(part(line, 1, b' '), &mut plain);
+    let third = read_hex(part(line, 2, b' '), &mut cipher);
+    Vector {
+        read: first & second & third & (line.len() == 130),
+        key,
+        plain,
+        cipher,
+    }
+}
+
+pub fn same_block(a: [u8; 16], b: [u8; 16]) -> bool {
+    same(&a, &b)
+}

@@ -1,0 +1,19 @@
+// What is checked last of a caller's choices: the step, and the form in which a run ends.
+ghost use mathlib.Core.Path.{_≡_};
+ghost use mathlib.Core.List.{[], _∷_};
+ghost use Rattle.aes.specs.Reply.{isStep, isForm, refusal};
+use aes::reply;
+use masks::step::taken;
+
+// The number of the first check that fails.
+pub(super) fn refusal(step: u8, form: u8) -> u8
+    ensures { λ r. ⌜ r ≡ refusal (isStep step ∷ isForm form ∷ []) ⌝ }
+{
+    if !taken(step) {
+        return reply::STEP_WRONG;
+    }
+    if 1 < form {
+        return reply::FORM_UNKNOWN;
+    }
+    reply::DONE
+}
