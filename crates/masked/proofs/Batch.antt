@@ -9,14 +9,15 @@ use lib.ListN.{length, drop, length-drop}
 use lib.Seq.{length-take-le}
 use mir.Facts.{and-yes}
 use Rattle.aes.specs.State.{at, addRoundKey}
+use Rattle.aes.specs.Reply.{refusal}
 use Rattle.aes.specs.Record.{final, block, wholes, points, run, last}
 use Rattle.aes.proofs.Below.{under}
 use Rattle.aes.proofs.Replies.{AllHold, telling, holds-done, all-hold}
 use Rattle.aes.proofs.Written.{run-append, last-append}
-use Rattle.masks.specs.Mask.{published, inRow}
+use Rattle.masks.specs.Mask.{inRow}
 use Rattle.masked.specs.Run.{covered, maskedRecord, maskedCipher}
-use Rattle.aes.specs.Reply.{refusal}
 use Rattle.masked.specs.Calls.{publishedChecks, blockAt, blocksChecks, encryptPublishedOf}
+use Rattle.masked.specs.Lent.{inTurn}
 use Rattle.masks.proofs.Row.{row-same}
 
 -- a run ends in sixteen bytes
@@ -30,10 +31,6 @@ masked-size nr form M o d w b =
 block-size : (k n : ℕ) (xs : List ℕ) → length xs ≡ 16 * n → k < n → length (blockAt k xs) ≡ 16
 block-size k n xs l lt = length-take-le 16 (drop (16 * k) xs) (rw length-drop (omega arith))
 
--- the row that the loop makes: block k, alone and in its place
-abbrev pub ciphers : List ℕ → List ℕ → List ℕ → ℕ → ℕ → ℕ → List ℕ
-ciphers schedule input offsets step form k = maskedCipher 14 form published (at offsets k) step schedule (blockAt k input)
-
 -- what the checks tell of a call that they let pass
 pub record Passed (w b out offsets : List ℕ) (d form : ℕ) : Type 0 where
   pub schedule : length w ≡ 240
@@ -42,10 +39,10 @@ pub record Passed (w b out offsets : List ℕ) (d form : ℕ) : Type 0 where
   pub blocks : length b / 16 ≡ length offsets
   pub alone : (k : ℕ) → k < length offsets → AllHold (publishedChecks w (blockAt k b) (blockAt k out) (at offsets k) d form)
 
-pub passed-blocks : (w b out offsets : List ℕ) (d form : ℕ) → refusal (blocksChecks w b out offsets d form) ≡ 0 → Passed w b out offsets d form
+pub passed-blocks : (w b out offsets : List ℕ) (d form : ℕ) {r : ℕ} → r ≡ refusal (blocksChecks w b out offsets d form) → r ≡ 0 → Passed w b out offsets d form
 unfolding AllHold telling
-passed-blocks w b out offsets d form e =
-    let h = all-hold (blocksChecks w b out offsets d form) tt e in
+passed-blocks w b out offsets d form told e =
+    let h = all-hold (blocksChecks w b out offsets d form) tt (sym told ∙ e) in
     let whole : length b % 16 ≡ 0 = eqb→eq (length b % 16) 0 (and-yes (eqb (length b % 16) 0) (leb (length b) 4096) (h .1 .0) .0) in
     let long : length out ≡ length b = eqb→eq (length out) (length b) (h .1 .1 .0) in
     let n : length offsets ≡ length b / 16 = eqb→eq (length offsets) (length b / 16) (h .1 .1 .1 .0) in
@@ -63,7 +60,7 @@ passed-blocks w b out offsets d form e =
 
 -- what the loop makes is what single calls do
 pub as-single : {w b out offsets : List ℕ} {d form : ℕ} → Passed w b out offsets d form
-    → inRow (ciphers w b offsets d form) (length offsets)
+    → inRow (inTurn w b offsets d form) (length offsets)
     ≡ inRow (λ k. encryptPublishedOf w (blockAt k b) (blockAt k out) (at offsets k) d form .1) (length b / 16)
 as-single {w} {b} {out} {offsets} {d} {form} p =
     rw (p .blocks)

@@ -20,7 +20,9 @@ use Rattle.aes.proofs.Part.{back}
 use Rattle.aes.proofs.Written.{Sized, Written, turns, recorded-one, written-block, written-turn, run-append, last-append}
 use Rattle.masks.specs.Mask.{_⊞_, label, mask, maskedBox, maskedBoxes, compensation, allCompensations, ending}
 use Rattle.masked.specs.Run.{covered, maskedRecord}
-use Rattle.masked.specs.Lent.{boxedBy, steps, pointAfter}
+use Rattle.masks.specs.Order.{boxedBy}
+use Rattle.masked.specs.Lent.{steps, pointAfter}
+use Rattle.masks.proofs.Counted.{turn, mask-turn}
 use Rattle.masks.proofs.Stored.{box-at, constant-at}
 
 pub steps-sized : (w b c : List ℕ) (o d : ℕ) (end : List ℕ) → Sized (steps w b c o d end)
@@ -84,18 +86,6 @@ recorded-so-far le l w = (le, l, w .held .size, w)
 pub recorded-block : {f : Point → List ℕ → List ℕ} → Sized f → {s t ys : List ℕ} → length s ≡ 16 → (xs : List ℕ) → length xs ≡ 1136 → t ≡ f block s → ys ≡ t
     → (0 ≤ 69) × (length s ≡ 16) × (length (back xs 0 16 ys) ≡ 1136) × Written f s 1136 (block ∷ turns after 0) t (back xs 0 16 ys)
 recorded-block h l xs room et ey = recorded-so-far (lit≤ tt) l (written-block h l xs room et ey)
-
--- labels are counted modulo 16: the label of byte i, where that of byte 0 is known, and the mask of a label
-turn : (o k i : ℕ) → ((o + k) % 16 + i) % 16 ≡ label o k i
-turn o k i = omega arith
-
-mask-turn : (M : List ℕ) (o k : ℕ) → mask M 0 ((o + k) % 16) ≡ mask M o k
-unfolding mask table
-mask-turn M o k = table-same (λ i. at M (label 0 ((o + k) % 16) i)) (λ i. at M (label o k i)) 16 (λ i h. ap (at M) (omega arith))
-
-pub mask-on : (M : List ℕ) (o k n : ℕ) → mask M ((o + k) % 16) n ≡ mask M o (k + n)
-unfolding mask table
-mask-on M o k n = table-same (λ i. at M (label ((o + k) % 16) n i)) (λ i. at M (label o (k + n) i)) 16 (λ i h. ap (at M) (omega arith))
 
 module _ {M w : List ℕ} (hM : Bytes 16 M) (hw : Bytes 240 w) (form o d : ℕ) where
   mask-bytes : (k : ℕ) → Bytes 16 (mask M o k)

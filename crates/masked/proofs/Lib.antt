@@ -1,6 +1,6 @@
 pub mod Labels
 pub mod LentSteps
-pub mod Ordered
+pub mod Points
 pub mod Owned
 pub mod Checked
 pub mod Batch

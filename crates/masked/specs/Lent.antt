@@ -3,14 +3,13 @@
 use mathlib.Core.List.{List}
 use Prim.Native.Nat.{ℕ, suc, _+_, _*_, _/_, _%_}
 use lib.ListN.{getD}
-use Rattle.aes.specs.State.{at, state, shiftRows, mixColumns}
+use Rattle.aes.specs.State.{at, shiftRows, mixColumns}
 use Rattle.aes.specs.Key.{roundKey}
 use Rattle.aes.specs.Record.{Point, block, keyed, boxed, shifted, mixed, compensated, closed, uncovered, five}
-use Rattle.masks.specs.Mask.{_⊞_}
-
--- byte i of s by box j + i of the boxes b
-unfoldable pub boxedBy : List ℕ → ℕ → List ℕ → List ℕ
-boxedBy b j s = state (λ i. at b (256 * ((j + i) % 16) + at s i))
+use Rattle.masks.specs.Mask.{_⊞_, published}
+use Rattle.masks.specs.Order.{boxedBy}
+use Rattle.masked.specs.Run.{maskedCipher}
+use Rattle.masked.specs.Calls.{blockAt}
 
 -- the sixteen bytes of number n in a row of them
 abbrev pub sixteen : List ℕ → ℕ → List ℕ
@@ -31,3 +30,7 @@ steps w b c o d end (uncovered r) s = s ⊞ end
 -- point n after the covered block
 unfoldable pub pointAfter : ℕ → Point
 pointAfter n = getD (five (n / 5)) (n % 5) block
+
+-- block k of many, with the published masks at its own offset
+abbrev pub inTurn : List ℕ → List ℕ → List ℕ → ℕ → ℕ → ℕ → List ℕ
+inTurn schedule input offsets step form k = maskedCipher 14 form published (at offsets k) step schedule (blockAt k input)

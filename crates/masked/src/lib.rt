@@ -1,7 +1,6 @@
 // The upper crate: masked runs. The module's engine.
 mod blocks;
 mod calls;
-mod order;
 mod round;
 mod run;
 

@@ -9,7 +9,8 @@ ghost use Rattle.aes.specs.Key.{roundKey};
 ghost use Rattle.aes.specs.Record.{bytes};
 ghost use Rattle.masks.specs.Mask.{_⊞_, twice, maskedBoxes, allCompensations};
 ghost use Rattle.masked.specs.Run.{maskedRecord, maskedCipher};
-ghost use Rattle.masked.specs.Lent.{boxedBy, steps, pointAfter};
+ghost use Rattle.masks.specs.Order.{boxedBy};
+ghost use Rattle.masked.specs.Lent.{steps, pointAfter};
 
 mod steps;
 

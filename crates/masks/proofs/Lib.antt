@@ -4,4 +4,6 @@ pub mod Columns
 pub mod Turned
 pub mod Endings
 pub mod Headed
+pub mod Counted
+pub mod Ordered
 pub mod Unique

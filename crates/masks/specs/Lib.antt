@@ -1,3 +1,4 @@
 pub mod Mask
+pub mod Order
 pub mod Parts
 pub mod Sheet

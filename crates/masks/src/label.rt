@@ -4,7 +4,7 @@
 ghost use mathlib.Core.Path.{_≡_};
 ghost use Prim.Native.Nat.{_+_, _%_, _<_};
 
-pub struct Position(usize);
+pub(crate) struct Position(usize);
 
 pub struct Label(usize);
 
@@ -12,7 +12,7 @@ impl Position {
     pub(crate) const FIRST: Position = Position(0);
 
     // The one that an entry of a list names.
-    pub fn listed(entry: u8) -> Position
+    pub(crate) fn listed(entry: u8) -> Position
         ensures { λ p. ⌜ p .0 ≡ entry ⌝ }
     {
         Position(entry as usize)
@@ -27,7 +27,7 @@ impl Position {
     }
 
     // Which byte of a state stands there.
-    pub fn read(self) -> usize
+    pub(crate) fn read(self) -> usize
         ensures { λ i. ⌜ i ≡ self .0 ⌝ }
     {
         self.0
@@ -52,7 +52,7 @@ impl Label {
     }
 
     // The label of the byte at a position, where byte 0 has this one.
-    pub fn over(self, p: Position) -> Label
+    pub(crate) fn over(self, p: Position) -> Label
         ensures { λ l. ⌜ (l .0 ≡ (self .0 + p .0) % 16) × (l .0 < 16) ⌝ }
     {
         Label((self.0 % 16 + p.0 % 16) % 16)

@@ -20,10 +20,10 @@ use Rattle.aes.proofs.Below.{under}
 use Rattle.aes.proofs.Xor.{sums, xor-self}
 use Rattle.aes.proofs.Listed.{table-at}
 use Rattle.masks.specs.Mask.{_⊞_, published, label, mask}
-use Rattle.masked.specs.Order.{boxOrder, natural, between}
+use Rattle.masks.specs.Order.{boxOrder, natural, between}
 use Rattle.masked.specs.Run.{maskedRecord}
 use Rattle.masked.specs.Calls.{blockAt, recordMaskedOf}
-use Rattle.masked.proofs.Ordered.{order-below, lucky}
+use Rattle.masks.proofs.Ordered.{order-below, lucky}
 use Rattle.theorems.specs.MaskTable.{maskAt}
 use Rattle.theorems.specs.Neighbours.{betweenStates, betweenRecorded, betweenBare, betweenMasks}
 use Rattle.theorems.proofs.AnyMasks.{maskBy}

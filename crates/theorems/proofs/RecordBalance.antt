@@ -15,7 +15,7 @@ use Rattle.aes.specs.Record.{Point, block, keyed, boxed, shifted, mixed, compen
 use Rattle.aes.specs.Reply.{taken}
 use Rattle.aes.proofs.Listed.{table-at}
 use Rattle.masks.specs.Mask.{published, mask}
-use Rattle.masked.proofs.LentSteps.{mask-on}
+use Rattle.masks.proofs.Counted.{mask-on}
 use Rattle.theorems.specs.MaskTable.{maskAt}
 use Rattle.theorems.specs.Balance.{times, different, Balanced, single}
 use Rattle.masked.specs.Calls.{recordMaskedOf}

@@ -5,7 +5,7 @@ use mathlib.Core.List.{List, []}
 use Prim.Native.Nat.{ℕ, _+_, _*_}
 use lib.ListN.{getD}
 use Rattle.aes.specs.Record.{keyed, boxed, cipherAt}
-use Rattle.masked.specs.Order.{between}
+use Rattle.masks.specs.Order.{between}
 use Rattle.masked.specs.Calls.{blockAt}
 use Rattle.theorems.specs.MaskTable.{maskAt}
 

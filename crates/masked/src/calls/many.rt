@@ -2,11 +2,13 @@
 // once.
 ghost use mathlib.Core.Path.{_≡_};
 ghost use mathlib.Core.List.{[], _∷_};
-ghost use Prim.Native.Nat.{_<_};
+ghost use Prim.Native.Nat.{_*_, _<_};
 ghost use lib.ListN.{length};
 ghost use Rattle.aes.specs.State.{at};
 ghost use Rattle.aes.specs.Reply.{areOffsets, isStep, isForm, refusal};
+ghost use Rattle.masks.specs.Mask.{inRow};
 ghost use Rattle.masked.specs.Calls.{encryptBlocksOf, blocksChecks};
+ghost use Rattle.masked.specs.Lent.{inTurn};
 use super::chosen;
 use super::lent::Block;
 use super::lent::Masks;
@@ -30,6 +32,15 @@ pub fn encrypt_blocks(
     if refusal != reply::DONE {
         return refusal;
     }
+    in_turn(schedule, input, output, offsets, step, form);
+    reply::DONE
+}
+
+// One block after the other, to its place in the output.
+fn in_turn(schedule: &[u8], input: &[u8], output: &mut [u8], offsets: &[u8], step: u8, form: u8)
+    requires { ⌜ (length (now schedule) ≡ 240) × (length (now input) ≡ 16 * length (now offsets)) × (length (now output) ≡ 16 * length (now offsets)) ⌝ }
+    ensures { λ _. ⌜ now (output .exit) ≡ inRow (inTurn (now (schedule .entry)) (now (input .entry)) (now (offsets .entry)) step form) (length (now (offsets .entry))) ⌝ }
+{
     let masks = Masks::published(step);
     let mut boxes = store::boxes();
     masks.stepped(&mut boxes);
@@ -50,7 +61,6 @@ pub fn encrypt_blocks(
         );
         k += 1;
     }
-    reply::DONE
 }
 
 // The number of the first check that fails, in their order.

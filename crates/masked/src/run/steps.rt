@@ -8,15 +8,15 @@ ghost use lib.ListN.{length};
 ghost use Rattle.aes.specs.State.{shiftRows, mixColumns};
 ghost use Rattle.aes.specs.Key.{roundKey};
 ghost use Rattle.masks.specs.Mask.{_⊞_, twice, mask, maskedBoxes, allCompensations, ending};
-ghost use Rattle.masked.specs.Lent.{boxedBy, sixteen};
+ghost use Rattle.masks.specs.Order.{boxedBy};
+ghost use Rattle.masked.specs.Lent.{sixteen};
 use crate::blocks::keep;
 use crate::blocks::sixteen;
 use crate::calls::lent::Block;
 use crate::calls::lent::Masks;
-use crate::order::Turn;
-use crate::order::positions;
 use crate::round::Round;
 use aes::add;
+use masks::answers::answers;
 use masks::constants::ending;
 use masks::label::Label;
 
@@ -78,22 +78,6 @@ pub(crate) fn boxes(s: Covered, masks: Masks, boxes: &[u8; 4096], part: &mut [u8
     let m = masks.advanced(l);
     let n = r.next();
     Covered::kept(m, n, answers(b, boxes, l), part)
-}
-
-// What the boxes answer, in the order of the list. It is apart from the step, so that the compiler has the list's entries as
-// constants before it lays out a round.
-fn answers(s: [u8; 16], boxes: &[u8; 4096], l: Label) -> [u8; 16]
-    requires { ⌜ l .0 < 16 ⌝ }
-    ensures { λ t. ⌜ t ≡ boxedBy (now (boxes .entry)) (l .0) s ⌝ }
-{
-    let order = positions();
-    let mut t = [0u8; 16];
-    let mut k = Turn::FIRST;
-    while k.read() < 16 {
-        let next = k.call(&mut t, &order, &s, boxes, l);
-        k = next;
-    }
-    t
 }
 
 pub(crate) fn shift_rows(s: Covered, part: &mut [u8]) -> Covered

@@ -4,7 +4,7 @@ use mathlib.Core.Path.{_∙_, ap}
 use Prim.Native.Nat.{ℕ, _+_, _%_}
 use borrow.Author.Needs.{needs}
 use Rattle.aes.specs.State.{shiftRows}
-use Rattle.masked.specs.Lent.{boxedBy}
+use Rattle.masks.specs.Order.{boxedBy}
 use Rattle.masked.proofs.run.half.Statement.{statement}
 use Rattle.masked.proofs.run.half.Tie as tie
 

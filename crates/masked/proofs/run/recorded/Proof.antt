@@ -46,6 +46,10 @@ point-lent c κs =
     let start = at-loop .before .before .before .before .before .before .before in
     (c .before .loop-test .taken, label-below _ _ (l .inv .0), l .inv .1, start .pre .0, start .pre .1, start .pre .2, search needs)
 
+-- the round of the next state
+next-round : (n : ℕ) → (n + 4) / 5 ≡ (n + 1 + 3) / 5
+next-round n = omega arith
+
 again : tie.Need-loop-again Inv-loop μ-loop
 again c =
     let point = c .before .before in
@@ -56,7 +60,7 @@ again c =
     let lt : l .n < 69 = in-loop .loop-test .taken in
     let made = k .0 _ _ (l .inv .0) in (
       made .1,
-      k .1 ∙ ap (λ (m : ℕ). m / 5) (omega arith),
+      k .1 ∙ next-round (l .n),
       recorded-so-far (one-more lt) (h .1) (after-written (steps-sized _ _ _ _ _ _) (h .1) (l .n) (omega (arith, lt)) (h .3) (made .0) (k .2)),
     )
 

@@ -15,7 +15,8 @@ use Rattle.aes.proofs.Steps.{byte}
 use Rattle.aes.proofs.Undo.{add-size}
 use Rattle.masks.specs.Mask.{_⊞_, mask, ending}
 use Rattle.masked.specs.Run.{maskedCipher}
-use Rattle.masked.specs.Lent.{boxedBy, steps}
+use Rattle.masks.specs.Order.{boxedBy}
+use Rattle.masked.specs.Lent.{steps}
 use Rattle.masked.proofs.Labels.{first-label, same-label, advanced, label-below}
 use Rattle.masked.proofs.LentSteps.{reached-more, last-any, lent-record}
 use Rattle.masked.proofs.Owned.{field-bytes}

@@ -18,9 +18,9 @@ use Rattle.aes.specs.Reply.{taken}
 use Rattle.aes.proofs.Listed.{Inverted, place-below, place-right, place-only}
 use Rattle.aes.proofs.Fill.{filled-all}
 use Rattle.aes.proofs.Below.{under}
 use Rattle.masks.specs.Mask.{published, mask}
-use Rattle.masked.specs.Order.{boxOrder, between}
-use Rattle.masked.proofs.LentSteps.{mask-on}
+use Rattle.masks.specs.Order.{boxOrder, between}
+use Rattle.masks.proofs.Counted.{mask-on}
 
 -- computed: a permutation of the sixteen positions
 permuted : Inverted (λ p. p) 16 (table (at boxOrder) 16)

@@ -8,11 +8,10 @@ use lib.ListN.{set}
 use Rattle.aes.specs.Byte.{table}
 use Rattle.aes.specs.State.{at}
 use Rattle.aes.proofs.Listed.{table-at}
-use Rattle.masked.specs.Order.{boxOrder}
-use Rattle.masked.specs.Lent.{boxedBy}
-use Rattle.masked.proofs.Ordered.{order-below}
-use Rattle.masked.proofs.order.Turn.call.Statement.{statement}
-use Rattle.masked.proofs.order.Turn.call.Tie as tie
+use Rattle.masks.specs.Order.{boxedBy, boxOrder}
+use Rattle.masks.proofs.Ordered.{order-below}
+use Rattle.masks.proofs.order.Turn.call.Statement.{statement}
+use Rattle.masks.proofs.order.Turn.call.Tie as tie
 
 boxed-at : (b : List ℕ) (j : ℕ) (s : List ℕ) (i : ℕ) → i < 16 → at (boxedBy b j s) i ≡ at b (256 * ((j + i) % 16) + at s i)
 unfolding boxedBy table
@@ -31,7 +30,7 @@ returns c =
     let l-is : over .over .result .0 ≡ (a .l .0 + p) % 16 = over .over .ensures .0 ∙ ap (λ (j : ℕ). (a .l .0 + j) % 16) (called .position .ensures .0) in
     let answer : answered .entry .result ≡ at (boxedBy (a .boxes .now) (a .l .0) (a .s .now)) p =
     answered .entry .ensures ∙ (λ j. at (a .boxes .now) (256 * l-is j + at (a .s .now) (i j)))
-    ∙ sym (boxed-at (a .boxes .now) (a .l .0) (a .s .now) p (order-below (a .self .0) (start .pre .2))) in
+    ∙ sym (boxed-at (a .boxes .now) (a .l .0) (a .s .now) p (order-below (a .self .0) (start .pre .1))) in
     (λ j. set (a .t .now) (i j) (answer j), refl)
 
 pub call-spec : {M : Type 1} → statement M

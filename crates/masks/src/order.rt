@@ -3,10 +3,9 @@
 ghost use mathlib.Core.Path.{_≡_};
 ghost use Prim.Native.Nat.{_+_, _*_, _<_};
 ghost use Rattle.aes.specs.State.{at};
-ghost use Rattle.masked.specs.Order.{boxOrder, called};
-ghost use Rattle.masked.specs.Lent.{boxedBy};
-use masks::label::Label;
-use masks::label::Position;
+ghost use Rattle.masks.specs.Order.{boxedBy, boxOrder, called};
+use crate::label::Label;
+use crate::label::Position;
 
 const ORDER: [u8; 16] = *b"\
 \x00\x02\x04\x06\x08\x0a\x0c\x0e\x01\x03\x05\x07\x09\x0b\x0d\x0f";
@@ -38,7 +37,7 @@ impl Turn {
         boxes: &[u8; 4096],
         l: Label,
     ) -> Turn
-        requires { ⌜ (now order ≡ boxOrder) × (l .0 < 16) × (self .0 < 16) ⌝ }
+        requires { ⌜ (now order ≡ boxOrder) × (self .0 < 16) ⌝ }
         ensures { λ next. ⌜ (now (t .exit) ≡ called (boxedBy (now (boxes .entry)) (l .0) (now (s .entry))) (self .0) (now (t .entry))) × (next .0 ≡ self .0 + 1) ⌝ }
     {
         let p = self.position(order);

@@ -3,10 +3,10 @@
 use mathlib.Core.Path.{_≡_, _∙_}
 use borrow.Author.Needs.{needs}
 use Rattle.aes.specs.State.{at}
-use Rattle.masked.specs.Order.{boxOrder}
-use Rattle.masked.proofs.Ordered.{order-below}
-use Rattle.masked.proofs.order.Turn.position.Statement.{statement}
-use Rattle.masked.proofs.order.Turn.position.Tie as tie
+use Rattle.masks.specs.Order.{boxOrder}
+use Rattle.masks.proofs.Ordered.{order-below}
+use Rattle.masks.proofs.order.Turn.position.Statement.{statement}
+use Rattle.masks.proofs.order.Turn.position.Tie as tie
 
 returns : tie.Need-returns
 returns c =

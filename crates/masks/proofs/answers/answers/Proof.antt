@@ -6,10 +6,10 @@ use native.Mathlib.Omega.{arith}
 use borrow.Author.Needs.{needs}
 use Rattle.aes.specs.State.{at}
 use Rattle.aes.proofs.Undo.{state-at}
-use Rattle.masked.specs.Lent.{boxedBy}
-use Rattle.masked.proofs.Ordered.{Called, called-none, called-more, called-all}
-use Rattle.masked.proofs.run.steps.answers.Statement.{statement}
-use Rattle.masked.proofs.run.steps.answers.Tie as tie
+use Rattle.masks.specs.Order.{boxedBy}
+use Rattle.masks.proofs.Ordered.{Called, called-none, called-more, called-all}
+use Rattle.masks.proofs.answers.answers.Statement.{statement}
+use Rattle.masks.proofs.answers.answers.Tie as tie
 
 abbrev Inv-loop : tie.InvT-loop
 Inv-loop boxes l s order t₀ k₀ t k = Called (at (boxedBy boxes (l .0) s)) (k .0) t
@@ -26,7 +26,7 @@ listed c κs =
     let test = c .before .before .before in
     let l = test .before .before in
     let positions = l .before in
-    (positions .positions .ensures, positions .before .pre, below _ (l .loop .k .0) (test .before .read .ensures) (test .if1 .taken))
+    (positions .positions .ensures, below _ (l .loop .k .0) (test .before .read .ensures) (test .if1 .taken))
 
 again : tie.Need-loop-again Inv-loop μ-loop
 again c =
