@@ -29,20 +29,13 @@ static int same(const uint8_t *a, const uint8_t *b, size_t length)
     return memcmp(a, b, length) == 0;
 }
 
-// What form 1 ends with: the ciphertext under Mask(offset + 14 * step).
-static void cover(uint8_t block[BLOCK_BYTES], const uint8_t *cipher, const uint8_t *masks, size_t offset, size_t step)
-{
-    for (size_t i = 0; i < BLOCK_BYTES; i++)
-        block[i] = cipher[i] ^ masks[(offset + 14 * step + i) % MASK_BYTES];
-}
-
 // One of NIST's vectors. Offset and step go with its number, and its key's first half are the lent masks.
 static void check_block(const struct vectors *vectors, size_t number, size_t engine)
 {
     const struct engine *e = engines[engine];
     const uint8_t *key = vectors->block[number].key, *masks = key;
     const uint8_t *plain = vectors->block[number].plain, *cipher = vectors->block[number].cipher;
-    uint8_t schedule[SCHEDULE_BYTES], output[BLOCK_BYTES], form_1[BLOCK_BYTES], states[RECORD_BYTES];
+    uint8_t schedule[SCHEDULE_BYTES], output[BLOCK_BYTES], states[RECORD_BYTES];
     uint8_t offset = (uint8_t)(number % 16), step = steps[number % STEPS];
 
     memset(output, UNTOUCHED, BLOCK_BYTES);
@@ -54,14 +47,9 @@ static void check_block(const struct vectors *vectors, size_t number, size_t eng
     expect(same(output, plain, BLOCK_BYTES), engine, DECRYPT, "vector", number + 1);
     e->encrypt_published(schedule, SCHEDULE_BYTES, plain, BLOCK_BYTES, output, BLOCK_BYTES, offset, step, 0);
     expect(same(output, cipher, BLOCK_BYTES), engine, ENCRYPT_PUBLISHED, "vector", number + 1);
-    e->encrypt_published(schedule, SCHEDULE_BYTES, plain, BLOCK_BYTES, output, BLOCK_BYTES, offset, step, 1);
-    cover(form_1, cipher, published_masks, offset, step);
-    expect(same(output, form_1, BLOCK_BYTES), engine, ENCRYPT_PUBLISHED, "vector", number + 1);
+    memset(output, UNTOUCHED, BLOCK_BYTES);
     e->encrypt_masked(schedule, SCHEDULE_BYTES, plain, BLOCK_BYTES, output, BLOCK_BYTES, masks, MASK_BYTES, offset, step, 0);
     expect(same(output, cipher, BLOCK_BYTES), engine, ENCRYPT_MASKED, "vector", number + 1);
-    e->encrypt_masked(schedule, SCHEDULE_BYTES, plain, BLOCK_BYTES, output, BLOCK_BYTES, masks, MASK_BYTES, offset, step, 1);
-    cover(form_1, cipher, masks, offset, step);
-    expect(same(output, form_1, BLOCK_BYTES), engine, ENCRYPT_MASKED, "vector", number + 1);
     e->record_masked(schedule, SCHEDULE_BYTES, plain, BLOCK_BYTES, masks, MASK_BYTES, offset, step, states, RECORD_BYTES);
     expect(same(states + RECORD_BYTES - BLOCK_BYTES, cipher, BLOCK_BYTES), engine, RECORD_MASKED, "vector", number + 1);
 }
@@ -76,11 +64,11 @@ static size_t under_one_key(const struct vectors *vectors, size_t first)
     return count;
 }
 
-// The vectors from one on that are under its key, in one call for each step and form. The offsets go with their numbers. Gives how
-// many they are.
+// The vectors from one on that are under its key, in one call for each step. The offsets go with their numbers. Gives how many they
+// are.
 static size_t check_many(const struct vectors *vectors, size_t first, size_t engine)
 {
-    uint8_t schedule[SCHEDULE_BYTES], offsets[MOST_BLOCKS], input[LONGEST], output[LONGEST], form_1[BLOCK_BYTES];
+    uint8_t schedule[SCHEDULE_BYTES], offsets[MOST_BLOCKS], input[LONGEST], output[LONGEST];
     size_t count = under_one_key(vectors, first), length = BLOCK_BYTES * count;
 
     for (size_t k = 0; k < count; k++) {
@@ -88,16 +76,12 @@ static size_t check_many(const struct vectors *vectors, size_t first, size_t eng
         offsets[k] = (uint8_t)((first + k) % 16);
     }
     library.expand_key(vectors->block[first].key, KEY_BYTES, schedule, SCHEDULE_BYTES);
-    for (size_t choice = 0; choice < 2 * STEPS; choice++) {
-        uint8_t form = (uint8_t)(choice % 2), step = steps[choice / 2];
+    for (size_t n = 0; n < STEPS; n++) {
         memset(output, UNTOUCHED, length);
-        engines[engine]->encrypt_blocks(schedule, SCHEDULE_BYTES, input, length, output, length, offsets, count, step, form);
-        for (size_t k = 0; k < count; k++) {
-            const uint8_t *cipher = vectors->block[first + k].cipher;
-            cover(form_1, cipher, published_masks, offsets[k], step);
-            expect(same(output + BLOCK_BYTES * k, form == 0 ? cipher : form_1, BLOCK_BYTES), engine, ENCRYPT_BLOCKS, "vector",
-                   first + k + 1);
-        }
+        engines[engine]->encrypt_blocks(schedule, SCHEDULE_BYTES, input, length, output, length, offsets, count, steps[n], 0);
+        for (size_t k = 0; k < count; k++)
+            expect(same(output + BLOCK_BYTES * k, vectors->block[first + k].cipher, BLOCK_BYTES), engine, ENCRYPT_BLOCKS,
+                   "vector", first + k + 1);
     }
     return count;
 }
@@ -200,8 +184,7 @@ static void compare_taken(enum call call)
     for (size_t i = 0; i < CASES * STEPS; i++) {
         a.step = steps[i % STEPS];
         for (a.offset = 0; a.offset < 16; a.offset++)
-            for (a.form = 0; a.form < 2; a.form++)
-                compare(call, &a, ++number);
+            compare(call, &a, ++number);
     }
 }
 
@@ -218,7 +201,7 @@ static void compare_refused(enum call call)
         a.masks = taken.masks - 1 + (rest /= 3) % 3;
         a.states = taken.states - 1 + (rest /= 3) % 3;
         a.offset = (uint8_t)(15 + (rest /= 3) % 2);
-        a.form = (uint8_t)(1 + (rest /= 2) % 2);
+        a.form = (uint8_t)((rest /= 2) % 2);
         a.step = edges[rest / 2];
         compare(call, &a, choice + 1);
     }
@@ -228,13 +211,12 @@ static void compare_refused(enum call call)
 static void compare_many_taken(void)
 {
     struct arguments a = taken;
-    for (a.offsets = 0; a.offsets <= MOST_BLOCKS; a.offsets++)
-        for (a.form = 0; a.form < 2; a.form++) {
-            a.input = a.output = BLOCK_BYTES * a.offsets;
-            a.offset = (uint8_t)(a.offsets % 16);
-            a.step = steps[a.offsets % STEPS];
-            compare(ENCRYPT_BLOCKS, &a, a.offsets);
-        }
+    for (a.offsets = 0; a.offsets <= MOST_BLOCKS; a.offsets++) {
+        a.input = a.output = BLOCK_BYTES * a.offsets;
+        a.offset = (uint8_t)(a.offsets % 16);
+        a.step = steps[a.offsets % STEPS];
+        compare(ENCRYPT_BLOCKS, &a, a.offsets);
+    }
 }
 
 // Lengths about no block, one block and the most, each with each, an offset and a form that are right or too great, and steps at
@@ -250,7 +232,7 @@ static void compare_many_refused(void)
         a.offsets = counts[(rest /= 8) % 6];
         a.schedule = taken.schedule - 1 + (rest /= 6) % 3;
         a.offset = (uint8_t)(15 + (rest /= 3) % 2);
-        a.form = (uint8_t)(1 + (rest /= 2) % 2);
+        a.form = (uint8_t)((rest /= 2) % 2);
         a.step = edges[rest / 2];
         compare(ENCRYPT_BLOCKS, &a, choice + 1);
     }

@@ -6,7 +6,7 @@
 #include "vectors.h"
 
 // Holds the library and the C translation to the vectors, and the translation to the library on other inputs, at all offsets, with
-// all steps, in both forms and where a call refuses. Prints a line for each call that is wrong; gives 1 where none is.
+// all steps and where a call refuses. Prints a line for each call that is wrong; gives 1 where none is.
 int check_engines(const struct vectors *vectors);
 
 #endif

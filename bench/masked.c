@@ -62,15 +62,11 @@ static inline const box *published_boxes(box place[MASKS], size_t step)
     return place;
 }
 
-// The last constant: form 0 uncovers the block, form 1 leaves it under Mask(offset + 14 * step).
-static inline void ending(uint8_t end[BLOCK], const uint8_t masks[MASKS], size_t offset, size_t step, uint8_t form)
+// The last constant, which uncovers the block.
+static inline void ending(uint8_t end[BLOCK], const uint8_t masks[MASKS], size_t offset, size_t step)
 {
-    uint8_t covering[BLOCK];
-    mask(covering, masks, offset + ROUNDS * step);
-    memcpy(end, covering, BLOCK);
+    mask(end, masks, offset + ROUNDS * step);
     shift_rows(end);
-    if (form == 1)
-        add(end, covering);
 }
 
 static inline void cover(uint8_t state[BLOCK], const uint8_t masks[MASKS], size_t offset)
@@ -90,12 +86,12 @@ static inline void substitute_covered(uint8_t state[BLOCK], const box boxes[MASK
     }
 }
 
-// The finished block alone, in either form.
+// The finished block alone.
 static inline void run(const uint8_t *schedule, const uint8_t *input, uint8_t *restrict output, const uint8_t masks[MASKS],
-                       const box boxes[MASKS], const constant compensations[MASKS], size_t offset, size_t step, uint8_t form)
+                       const box boxes[MASKS], const constant compensations[MASKS], size_t offset, size_t step)
 {
     uint8_t end[BLOCK], state[BLOCK];
-    ending(end, masks, offset, step, form);
+    ending(end, masks, offset, step);
     memcpy(state, input, BLOCK);
     cover(state, masks, offset);
     size_t label = offset;
@@ -116,12 +112,12 @@ static inline void run(const uint8_t *schedule, const uint8_t *input, uint8_t *r
     memcpy(output, state, BLOCK);
 }
 
-// The 71 states, in form 0.
+// The 71 states.
 static inline void record(const uint8_t *schedule, const uint8_t *input, uint8_t *restrict states, const uint8_t masks[MASKS],
                           const box boxes[MASKS], const constant compensations[MASKS], size_t offset, size_t step)
 {
     uint8_t end[BLOCK], state[BLOCK];
-    ending(end, masks, offset, step, 0);
+    ending(end, masks, offset, step);
     memcpy(state, input, BLOCK);
     cover(state, masks, offset);
     states = keep(state, states);
@@ -164,7 +160,7 @@ static inline uint8_t refusal(size_t schedule_length, size_t input_length, size_
         return OFFSET_RANGE;
     if (!taken(step))
         return STEP_WRONG;
-    if (form > 1)
+    if (form != 0)
         return FORM_UNKNOWN;
     return DONE;
 }
@@ -186,7 +182,7 @@ static inline uint8_t refusal_of_many(size_t schedule_length, size_t input_lengt
             return OFFSET_RANGE;
     if (!taken(step))
         return STEP_WRONG;
-    if (form > 1)
+    if (form != 0)
         return FORM_UNKNOWN;
     return DONE;
 }
@@ -200,7 +196,7 @@ uint8_t translated_encrypt_published(const uint8_t *schedule, size_t schedule_le
         return refused;
     box place[MASKS];
     const box *boxes = published_boxes(place, step);
-    run(schedule, input, output, published, boxes, stored_compensations, offset, step, form);
+    run(schedule, input, output, published, boxes, stored_compensations, offset, step);
     return DONE;
 }
 
@@ -214,7 +210,7 @@ uint8_t translated_encrypt_blocks(const uint8_t *schedule, size_t schedule_lengt
     box place[MASKS];
     const box *boxes = published_boxes(place, step);
     for (size_t k = 0; k < offsets_length; k++, input += BLOCK, output += BLOCK)
-        run(schedule, input, output, published, boxes, stored_compensations, offsets[k], step, form);
+        run(schedule, input, output, published, boxes, stored_compensations, offsets[k], step);
     return DONE;
 }
 
@@ -229,7 +225,7 @@ uint8_t translated_encrypt_masked(const uint8_t *schedule, size_t schedule_lengt
     constant compensations[MASKS];
     make_boxes(boxes, masks, step);
     make_compensations(compensations, masks);
-    run(schedule, input, output, masks, boxes, compensations, offset, step, form);
+    run(schedule, input, output, masks, boxes, compensations, offset, step);
     return DONE;
 }
 

@@ -17,9 +17,9 @@ static const uint8_t block[SLIPGREASE_BLOCK_BYTES] = {
 static const uint8_t standard[SLIPGREASE_BLOCK_BYTES] = {
     0x8e, 0xa2, 0xb7, 0xca, 0x51, 0x67, 0x45, 0xbf, 0xea, 0xfc, 0x49, 0x90, 0x4b, 0x49, 0x60, 0x89};
 
-/* The published masks, which slipgrease_encrypt_published uses. They are needed here to uncover a block of form 1. */
-static const uint8_t masks[SLIPGREASE_MASKS_BYTES] = {
-    0x00, 0x0f, 0x36, 0x39, 0x53, 0x5c, 0x65, 0x6a, 0x95, 0x9a, 0xa3, 0xac, 0xc6, 0xc9, 0xf0, 0xff};
+/* What an early module stored of it in form 1, at offset 5. */
+static const uint8_t stored[SLIPGREASE_BLOCK_BYTES] = {
+    0xb7, 0xf1, 0xeb, 0xaf, 0x3b, 0xf2, 0xdf, 0x1c, 0x46, 0x3a, 0x80, 0x60, 0xb4, 0x49, 0x6f, 0xbf};
 
 /* The steps of two series of modules, so that they share no sequence of masks. */
 enum { STEP = 1, OTHER_STEP = 5 };
@@ -104,7 +104,7 @@ int main(void)
     must(same(rack, standard), "the rack makes the ciphertext of the standard");
     print_block("rack", rack);
 
-    /* In the module, in form 0: the same key at every offset. */
+    /* In the module: the same key at every offset. */
     for (offset = 0; offset < 16; offset++) {
         uint8_t module[SLIPGREASE_BLOCK_BYTES] = {0};
         char name[32];
@@ -131,16 +131,13 @@ int main(void)
     must(same(refused, zeros), "a refused call has written nothing");
     printf("%-21srefused with %d, %s\n", "module, offset 16", reply, sorted(reply));
 
-    /* An early module asks for form 1, whose block is still covered: byte i by M(offset + 14 * step + i), labels modulo 16. */
-    uint8_t early[SLIPGREASE_BLOCK_BYTES] = {0};
-    offset = 5;
-    reply = slipgrease_encrypt_published(schedule, sizeof schedule, block, sizeof block, early, sizeof early, offset, STEP, 1);
-    must_be_done(reply, "encrypt_published, form 1");
-    print_block("form 1, offset 5", early);
-    for (size_t i = 0; i < sizeof early; i++)
-        early[i] ^= masks[(offset + 14 * STEP + i) % 16];
-    must(same(early, rack), "a block of form 1, uncovered, is the key of the rack");
-    print_block("form 1, uncovered", early);
+    /* Form 1, in which early modules ended, has retired; what they stored is converted. */
+    uint8_t converted[SLIPGREASE_BLOCK_BYTES] = {0};
+    reply = slipgrease_convert(stored, sizeof stored, converted, sizeof converted, 5);
+    must_be_done(reply, "convert");
+    must(same(converted, rack), "a block that was stored in form 1, converted, is the key of the rack");
+    print_block("form 1, offset 5", stored);
+    print_block("form 1, converted", converted);
     session_change(schedule);
     return EXIT_SUCCESS;
 }

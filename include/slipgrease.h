@@ -56,7 +56,7 @@ extern "C" {
 #define SLIPGREASE_REPLY_OUTPUT_LENGTH 4    /* the buffer for the output is not 16 bytes; for many blocks, not as long as the input */
 #define SLIPGREASE_REPLY_MASKS_LENGTH 5     /* the mask table, or the buffer for it, is not 16 bytes */
 #define SLIPGREASE_REPLY_OFFSET_RANGE 6     /* an offset is above 15 */
-#define SLIPGREASE_REPLY_FORM_UNKNOWN 7     /* the form is neither 0 nor 1 */
+#define SLIPGREASE_REPLY_FORM_UNKNOWN 7     /* the form is not 0 */
 #define SLIPGREASE_REPLY_RECORD_LENGTH 8    /* the buffer for the record is not 1,136 bytes */
 #define SLIPGREASE_REPLY_NO_LOGARITHM 9     /* 00 has no logarithm */
 #define SLIPGREASE_REPLY_POWER_RANGE 10     /* the power is above 254 */
@@ -154,8 +154,9 @@ uint8_t slipgrease_record_plain(
  * M(j+d). A step is 1, or 4 to 15. With 0 a box would keep the mask. The boxes are called at the bytes 0, 2 .. 14 and then
  * 1, 3 .. 15, and none should take the mask that the one before it has given: with 2 that happens at fourteen of the fifteen
  * pairs of neighbours, and with 3 at one, from byte 14 to byte 1.
- * Form 0 is the standard: it ends with the ciphertext of slipgrease_encrypt, at every offset, with every step and any masks. Form
- * 1 is that of the early modules: its block is the ciphertext xored with Mask(o+14d), so it is still covered.
+ * A run ends with the ciphertext of slipgrease_encrypt, at every offset, with every step and any masks. That is form 0, and no
+ * other is taken: form 1, in which early modules left Mask(o+14d) on the block, has retired. For what they stored there is
+ * slipgrease_convert.
  */
 
 /*
@@ -196,7 +197,7 @@ uint8_t slipgrease_encrypt_masked(
     uint8_t offset, uint8_t step, uint8_t form);
 
 /*
- * Encrypts one block under any sixteen masks in form 0, and records the state at each of the 71 points that
+ * Encrypts one block under any sixteen masks, and records the state at each of the 71 points that
  * slipgrease_record_plain has. Each is the plain state under the mask that the table there names. No other output block is
  * written.
  * Reads schedule, 240 bytes, input, 16 bytes, and masks, 16 bytes. Writes record_out, 1,136 bytes.
@@ -239,6 +240,17 @@ uint8_t slipgrease_write_sheet(
  * Refusals: 5 MASKS_LENGTH.
  */
 uint16_t slipgrease_fitness(const uint8_t *masks, size_t masks_len);
+
+/*
+ * Converts what an early module stored in form 1, with the published masks and step 1: xors it with Mask(o+14), which gives the
+ * standard block. Of a standard block it makes what was stored, so twice gives the input back.
+ * Reads input, 16 bytes. Writes output_out, 16 bytes.
+ * Refusals: 3 INPUT_LENGTH, 4 OUTPUT_LENGTH, 6 OFFSET_RANGE.
+ */
+uint8_t slipgrease_convert(
+    const uint8_t *input, size_t input_len,
+    uint8_t *output_out, size_t output_len,
+    uint8_t offset);
 
 /*
  * Answers the product of a and b in the field of FIPS 197, modulo 11b.

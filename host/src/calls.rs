@@ -91,6 +91,7 @@ extern "C" {
     fn slipgrease_read_sheet(sheet: *const u8, sheet_len: usize, masks: *mut u8, masks_len: usize) -> u16;
     fn slipgrease_write_sheet(masks: *const u8, masks_len: usize, step: u8, sheet: *mut u8, sheet_len: usize) -> u8;
     fn slipgrease_fitness(masks: *const u8, masks_len: usize) -> u16;
+    fn slipgrease_convert(input: *const u8, input_len: usize, output: *mut u8, output_len: usize, offset: u8) -> u8;
     fn slipgrease_multiply(a: u8, b: u8) -> u8;
     fn slipgrease_inverse(x: u8) -> u8;
     fn slipgrease_logarithm(x: u8) -> u16;
@@ -199,6 +200,10 @@ pub fn write_sheet(masks: &[u8], step: u8, sheet: &mut [u8]) -> u8 {
 
 pub fn fitness(masks: &[u8]) -> u16 {
     unsafe { slipgrease_fitness(masks.as_ptr(), masks.len()) }
+}
+
+pub fn convert(input: &[u8], output: &mut [u8], offset: u8) -> u8 {
+    unsafe { slipgrease_convert(input.as_ptr(), input.len(), output.as_mut_ptr(), output.len(), offset) }
 }
 
 pub fn multiply(a: u8, b: u8) -> u8 {

@@ -5,11 +5,10 @@
 //! [`Refusal`], in a fixed order, and a refused call has written nothing.
 //!
 //! There are two ways to call it. The functions of this page take slices of any length and hand them on as they are. The types
-//! [`Schedule`], [`Masks`], [`Offset`], [`Step`] and [`Form`] hold only what the library takes, so that their calls cannot be
-//! refused:
+//! [`Schedule`], [`Masks`], [`Offset`] and [`Step`] hold only what the library takes, so that their calls cannot be refused:
 //!
 //! ```
-//! use slipgrease::{Form, Offset, Schedule, Step};
+//! use slipgrease::{Offset, Schedule, Step};
 //!
 //! // FIPS 197, C.3.
 //! let key = std::array::from_fn(|i| i as u8);
@@ -21,7 +20,7 @@
 //! assert_eq!(schedule.decrypt(&at_the_rack), block);
 //!
 //! for offset in Offset::all() {
-//!     let in_the_module = schedule.encrypt_published(&block, offset, Step::ONE, Form::Standard);
+//!     let in_the_module = schedule.encrypt_published(&block, offset, Step::ONE);
 //!     assert_eq!(in_the_module, at_the_rack);
 //! }
 //! ```
@@ -40,11 +39,11 @@ mod refusal;
 mod schedule;
 mod slices;
 
-pub use crate::masks::{Form, Masks, Offset, Step};
+pub use crate::masks::{Masks, Offset, Step};
 pub use crate::record::{Point, Record, Stage};
 pub use crate::refusal::{sort_reply, Fault, Refusal};
 pub use crate::schedule::{Block, Schedule};
 pub use crate::slices::{
-    decrypt, encrypt, encrypt_blocks, encrypt_masked, encrypt_published, expand_key, fitness, inverse, logarithm, masked_inverse,
-    multiply, power, read_sheet, record_masked, record_plain, write_sheet,
+    convert, decrypt, encrypt, encrypt_blocks, encrypt_masked, encrypt_published, expand_key, fitness, inverse, logarithm,
+    masked_inverse, multiply, power, read_sheet, record_masked, record_plain, write_sheet,
 };

@@ -1,6 +1,7 @@
-//! The sixteen masks, the offset at which a run begins with them, the step by which it goes on, and the form in which it ends.
+//! The sixteen masks, the offset at which a run begins with them, and the step by which it goes on.
 
 use crate::refusal::Refusal;
+use crate::schedule::Block;
 use crate::slices;
 
 /// Sixteen masks. Any sixteen bytes are taken, fit or not.
@@ -106,6 +107,25 @@ impl Offset {
     pub fn number(self) -> u8 {
         self.0
     }
+
+    /// The standard block of one that an early module stored in form 1 after a run at this offset, with the published masks and
+    /// step 1. Of a standard block it makes the stored one.
+    ///
+    /// ```
+    /// use slipgrease::Offset;
+    ///
+    /// // The ciphertext of FIPS 197, C.3, and the same under Mask(14): f0 ff 00 0f 36 39 53 5c 65 6a 95 9a a3 ac c6 c9.
+    /// let standard = 0x8ea2b7ca516745bfeafc49904b496089_u128.to_be_bytes();
+    /// let stored = 0x7e5db7c5675e16e38f96dc0ae8e5a640_u128.to_be_bytes();
+    /// let offset = Offset::new(0).unwrap();
+    /// assert_eq!(offset.convert(&stored), standard);
+    /// assert_eq!(offset.convert(&standard), stored);
+    /// ```
+    pub fn convert(self, stored: &Block) -> Block {
+        let mut standard = [0; 16];
+        slices::convert(stored, &mut standard, self.0).expect("offset and lengths are right");
+        standard
+    }
 }
 
 /// How far the labels of the masks advance in a round: 1, or 4 to 15. Each series of modules has its own.
@@ -147,58 +167,21 @@ impl Step {
     }
 }
 
-/// How a masked run ends.
-///
-/// ```
-/// use slipgrease::{Form, Refusal};
-///
-/// assert_eq!(Form::try_from(1), Ok(Form::Printed));
-/// assert_eq!(Form::try_from(2), Err(Refusal::FormUnknown));
-/// ```
-#[derive(Clone, Copy, Debug, PartialEq, Eq, Hash)]
-pub enum Form {
-    /// With the standard ciphertext.
-    Standard = 0,
-    /// With the ciphertext still covered by Mask(o+14d) at offset o and step d, as early modules followed the print.
-    Printed = 1,
-}
-
-impl TryFrom<u8> for Form {
-    type Error = Refusal;
-
-    fn try_from(number: u8) -> Result<Form, Refusal> {
-        match number {
-            0 => Ok(Form::Standard),
-            1 => Ok(Form::Printed),
-            _ => Err(Refusal::FormUnknown),
-        }
-    }
-}
-
 #[cfg(test)]
 mod tests {
-    use super::{Form, Masks, Offset, Step};
+    use super::{Masks, Offset, Step};
     use crate::Schedule;
 
-    /// A form 1 block is covered by Mask(o+14d), so at sixteen offsets it shows each of the masks.
+    /// An early module left Mask(o+14) on the block, whose byte i is mask o + 14 + i.
     #[test]
-    fn the_published_masks_are_those_of_the_stored_boxes() {
+    fn what_was_stored_becomes_what_is_made_now() {
         let schedule = Schedule::expand(&[7; 32]);
-        for (offset, step) in Offset::all().flat_map(|offset| Step::all().map(move |step| (offset, step))) {
-            let stored = schedule.encrypt_published(&[9; 16], offset, step, Form::Printed);
-            let lent = schedule.encrypt_masked(&[9; 16], &Masks::PUBLISHED, offset, step, Form::Printed);
-            assert_eq!(stored, lent);
-        }
-    }
-
-    /// At offset 3 and step 5 the final label is 3 + 14 * 5, which is 9 modulo 16.
-    #[test]
-    fn the_printed_form_is_covered_by_the_final_label_s_mask() {
-        let (schedule, offset, step) = (Schedule::expand(&[7; 32]), Offset::new(3).unwrap(), Step::new(5).unwrap());
-        let printed = schedule.encrypt_published(&[9; 16], offset, step, Form::Printed);
-        let standard = schedule.encrypt(&[9; 16]);
-        for i in 0..16 {
-            assert_eq!(printed[i] ^ standard[i], Masks::PUBLISHED.as_bytes()[(9 + i) % 16]);
+        for offset in Offset::all() {
+            let made = schedule.encrypt_published(&[9; 16], offset, Step::ONE);
+            let label = usize::from(offset.number()) + 14;
+            let stored = std::array::from_fn(|i| made[i] ^ Masks::PUBLISHED.as_bytes()[(label + i) % 16]);
+            assert_eq!(offset.convert(&stored), made);
+            assert_eq!(offset.convert(&made), stored);
         }
     }
 

@@ -29,7 +29,7 @@ pub enum Refusal {
     MasksLength = 5,
     /// An offset is above 15.
     OffsetRange = 6,
-    /// The form is neither 0 nor 1.
+    /// The form is not 0.
     FormUnknown = 7,
     /// The record is not 1,136 bytes long.
     RecordLength = 8,
@@ -57,7 +57,7 @@ const REFUSALS: [(Refusal, &str, &str); 15] = [
     (Refusal::OutputLength, "OUTPUT_LENGTH", "the output is not 16 bytes long; of many blocks, not as long as the input"),
     (Refusal::MasksLength, "MASKS_LENGTH", "the mask table is not 16 bytes long"),
     (Refusal::OffsetRange, "OFFSET_RANGE", "an offset is above 15"),
-    (Refusal::FormUnknown, "FORM_UNKNOWN", "the form is neither 0 nor 1"),
+    (Refusal::FormUnknown, "FORM_UNKNOWN", "the form is not 0"),
     (Refusal::RecordLength, "RECORD_LENGTH", "the record is not 1,136 bytes long"),
     (Refusal::NoLogarithm, "NO_LOGARITHM", "00 has no logarithm"),
     (Refusal::PowerRange, "POWER_RANGE", "the power is above 254"),

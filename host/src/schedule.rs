@@ -1,6 +1,6 @@
 //! A key schedule, and the runs with it that cannot be refused.
 
-use crate::masks::{Form, Masks, Offset, Step};
+use crate::masks::{Masks, Offset, Step};
 use crate::record::Record;
 use crate::refusal::Refusal;
 use crate::slices;
@@ -11,6 +11,9 @@ pub type Block = [u8; 16];
 
 /// Lengths and numbers are in the types, so no call below can be refused.
 const FITS: &str = "every length and number is right by its type";
+
+/// The standard form, the only one that a masked run has since form 1 retired.
+const FORM: u8 = 0;
 
 /// The fifteen round keys of AES-256, 240 bytes. Any 240 bytes are taken.
 ///
@@ -63,45 +66,44 @@ impl Schedule {
         Record::new(states)
     }
 
-    /// The block that a masked run with the published masks ends with.
-    pub fn encrypt_published(&self, block: &Block, offset: Offset, step: Step, form: Form) -> Block {
+    /// The block that a masked run with the published masks ends with: the one of [`encrypt`](Schedule::encrypt).
+    pub fn encrypt_published(&self, block: &Block, offset: Offset, step: Step) -> Block {
         let mut output = [0; 16];
-        slices::encrypt_published(&self.0, block, &mut output, offset.number(), step.number(), form as u8).expect(FITS);
+        slices::encrypt_published(&self.0, block, &mut output, offset.number(), step.number(), FORM).expect(FITS);
         output
     }
 
     /// The same of many blocks, each at an offset of its own and all with one step: so many calls as there are 256 blocks.
     ///
     /// ```
-    /// use slipgrease::{Form, Offset, Schedule, Step};
+    /// use slipgrease::{Offset, Schedule, Step};
     ///
     /// let schedule = Schedule::expand(&[1; 32]);
     /// let blocks: Vec<_> = Offset::all().map(|offset| ([offset.number(); 16], offset)).collect();
-    /// let made = schedule.encrypt_blocks(&blocks, Step::ONE, Form::Standard);
+    /// let made = schedule.encrypt_blocks(&blocks, Step::ONE);
     /// assert_eq!(made[7], schedule.encrypt(&[7; 16]));
     /// ```
-    pub fn encrypt_blocks(&self, blocks: &[(Block, Offset)], step: Step, form: Form) -> Vec<Block> {
-        blocks.chunks(256).flat_map(|blocks| self.encrypt_at_once(blocks, step, form)).collect()
+    pub fn encrypt_blocks(&self, blocks: &[(Block, Offset)], step: Step) -> Vec<Block> {
+        blocks.chunks(256).flat_map(|blocks| self.encrypt_at_once(blocks, step)).collect()
     }
 
     /// Up to 256 blocks.
-    fn encrypt_at_once(&self, blocks: &[(Block, Offset)], step: Step, form: Form) -> Vec<Block> {
+    fn encrypt_at_once(&self, blocks: &[(Block, Offset)], step: Step) -> Vec<Block> {
         let input: Vec<u8> = blocks.iter().flat_map(|(block, _)| *block).collect();
         let offsets: Vec<u8> = blocks.iter().map(|(_, offset)| offset.number()).collect();
         let mut output = vec![0; input.len()];
-        slices::encrypt_blocks(&self.0, &input, &mut output, &offsets, step.number(), form as u8).expect(FITS);
+        slices::encrypt_blocks(&self.0, &input, &mut output, &offsets, step.number(), FORM).expect(FITS);
         output.chunks_exact(16).map(|block| block.try_into().expect(FITS)).collect()
     }
 
-    /// The block that a masked run with any sixteen masks ends with.
-    pub fn encrypt_masked(&self, block: &Block, masks: &Masks, offset: Offset, step: Step, form: Form) -> Block {
+    /// The block that a masked run with any sixteen masks ends with: the same one.
+    pub fn encrypt_masked(&self, block: &Block, masks: &Masks, offset: Offset, step: Step) -> Block {
         let mut output = [0; 16];
-        slices::encrypt_masked(&self.0, block, &mut output, masks.as_bytes(), offset.number(), step.number(), form as u8)
-            .expect(FITS);
+        slices::encrypt_masked(&self.0, block, &mut output, masks.as_bytes(), offset.number(), step.number(), FORM).expect(FITS);
         output
     }
 
-    /// The 71 states of a masked run in the standard form.
+    /// The 71 states of a masked run.
     ///
     /// ```
     /// use slipgrease::{Masks, Offset, Schedule, Step};
@@ -138,7 +140,7 @@ impl fmt::Debug for Schedule {
 #[cfg(test)]
 mod tests {
     use super::{Block, Schedule};
-    use crate::masks::{Form, Offset, Step};
+    use crate::masks::{Offset, Step};
 
     /// Around the 256 blocks of a call, each block is what a call of its own gives.
     #[test]
@@ -148,10 +150,9 @@ mod tests {
             let block = |i: usize| -> Block { std::array::from_fn(|k| (i * 31 + k) as u8) };
             let offset = |i: usize| Offset::new((i * 7 % 16) as u8).unwrap();
             let blocks: Vec<(Block, Offset)> = (0..count).map(|i| (block(i), offset(i))).collect();
-            for (step, form) in [(1, Form::Standard), (1, Form::Printed), (4, Form::Printed)] {
-                let step = Step::new(step).unwrap();
-                let single = blocks.iter().map(|(block, offset)| schedule.encrypt_published(block, *offset, step, form));
-                assert_eq!(schedule.encrypt_blocks(&blocks, step, form), single.collect::<Vec<Block>>());
+            for step in [1, 4].map(|step| Step::new(step).unwrap()) {
+                let single = blocks.iter().map(|(block, offset)| schedule.encrypt_published(block, *offset, step));
+                assert_eq!(schedule.encrypt_blocks(&blocks, step), single.collect::<Vec<Block>>());
             }
         }
     }

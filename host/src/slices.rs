@@ -62,19 +62,23 @@ pub fn record_plain(schedule: &[u8], input: &[u8], states: &mut [u8]) -> Result<
     Refusal::check(calls::record_plain(schedule, input, states))
 }
 
-/// Writes the block that a masked run with the published masks ends with: in form 0 what [`encrypt`] writes, at every offset and
-/// with every step, which is how far the labels of the masks advance in a round.
+/// Writes the block that a masked run with the published masks ends with: what [`encrypt`] writes, at every offset and with every
+/// step, which is how far the labels of the masks advance in a round.
 ///
 /// Refused, in this order: schedule not 240 bytes, input not 16, output not 16, offset above 15, step 0, 2, 3 or above 15, form
-/// not 0 or 1.
+/// not 0. The form is there for callers that still name it: form 1 has retired, and [`convert`] is for what was stored in it.
 ///
 /// ```
+/// use slipgrease::Refusal;
+///
 /// let (mut plain, mut masked) = ([0; 16], [0; 16]);
 /// slipgrease::encrypt(&[3; 240], &[5; 16], &mut plain)?;
 /// slipgrease::encrypt_published(&[3; 240], &[5; 16], &mut masked, 11, 1, 0)?;
 /// assert_eq!(masked, plain);
 /// slipgrease::encrypt_published(&[3; 240], &[5; 16], &mut masked, 11, 5, 0)?;
 /// assert_eq!(masked, plain);
+/// let refused = slipgrease::encrypt_published(&[3; 240], &[5; 16], &mut masked, 11, 5, 1);
+/// assert_eq!(refused, Err(Refusal::FormUnknown));
 /// # Ok::<(), slipgrease::Refusal>(())
 /// ```
 pub fn encrypt_published(
@@ -91,7 +95,7 @@ pub fn encrypt_published(
 /// Writes for each of up to 256 blocks what [`encrypt_published`] would, at an offset of its own and one step for all.
 ///
 /// Refused, in this order: schedule not 240 bytes, input not 16 for each of 256 blocks at most, output not as long as the input, not
-/// one offset for each block, any offset above 15, step 0, 2, 3 or above 15, form not 0 or 1. A call without blocks is done.
+/// one offset for each block, any offset above 15, step 0, 2, 3 or above 15, form not 0. A call without blocks is done.
 ///
 /// ```
 /// use slipgrease::Refusal;
@@ -120,13 +124,13 @@ pub fn encrypt_blocks(
 /// What [`encrypt_published`] writes, with any sixteen masks.
 ///
 /// Refused, in this order: schedule not 240 bytes, input not 16, output not 16, masks not 16, offset above 15, step 0, 2, 3 or
-/// above 15, form not 0 or 1.
+/// above 15, form not 0.
 ///
 /// ```
-/// let (mut plain, mut printed) = ([0; 16], [0; 16]);
+/// let (mut plain, mut masked) = ([0; 16], [0; 16]);
 /// slipgrease::encrypt(&[3; 240], &[5; 16], &mut plain)?;
-/// slipgrease::encrypt_masked(&[3; 240], &[5; 16], &mut printed, &[0xc4; 16], 11, 5, 1)?;
-/// assert_eq!(printed, plain.map(|byte| byte ^ 0xc4));
+/// slipgrease::encrypt_masked(&[3; 240], &[5; 16], &mut masked, &[0xc4; 16], 11, 5, 0)?;
+/// assert_eq!(masked, plain);
 /// # Ok::<(), slipgrease::Refusal>(())
 /// ```
 pub fn encrypt_masked(
@@ -141,7 +145,7 @@ pub fn encrypt_masked(
     Refusal::check(calls::encrypt_masked(schedule, input, output, masks, offset, step, form))
 }
 
-/// Writes the 71 states of a masked run in form 0, 1,136 bytes.
+/// Writes the 71 states of a masked run, 1,136 bytes.
 ///
 /// Refused, in this order: schedule not 240 bytes, input not 16, masks not 16, offset above 15, step 0, 2, 3 or above 15, record
 /// not 1,136.
@@ -210,6 +214,24 @@ pub fn fitness(masks: &[u8]) -> Result<bool, Refusal> {
     valued(calls::fitness(masks)).map(|value| value == 1)
 }
 
+/// Writes the standard block of one that an early module stored in form 1, with the published masks and step 1: it takes off
+/// Mask(o+14), which was left on it at offset o. Of a standard block it writes the stored one, so that twice gives the input back.
+///
+/// Refused, in this order: input not 16 bytes, output not 16, offset above 15.
+///
+/// ```
+/// // At offset 2 the mask is Mask(16), which is Mask(0): the published masks as they stand.
+/// let (mut standard, mut back) = ([0; 16], [0; 16]);
+/// slipgrease::convert(slipgrease::Masks::PUBLISHED.as_bytes(), &mut standard, 2)?;
+/// assert_eq!(standard, [0; 16]);
+/// slipgrease::convert(&standard, &mut back, 2)?;
+/// assert_eq!(&back, slipgrease::Masks::PUBLISHED.as_bytes());
+/// # Ok::<(), slipgrease::Refusal>(())
+/// ```
+pub fn convert(input: &[u8], output: &mut [u8], offset: u8) -> Result<(), Refusal> {
+    Refusal::check(calls::convert(input, output, offset))
+}
+
 /// The product of two bytes in FIPS 197's field.
 ///
 /// ```
@@ -261,4 +283,28 @@ pub fn masked_inverse(x: u8, r: u8) -> u8 {
 fn valued(both: u16) -> Result<u8, Refusal> {
     let [number, value] = both.to_be_bytes();
     Refusal::check(number).map(|()| value)
+}
+
+#[cfg(test)]
+mod tests {
+    use super::{encrypt_blocks, encrypt_masked, encrypt_published};
+    use crate::refusal::Refusal;
+
+    /// Form 1 has retired, and is refused like those that never were.
+    #[test]
+    fn form_0_alone_is_taken() {
+        let (schedule, block, masks) = ([3; 240], [5; 16], [7; 16]);
+        for form in 0..=255 {
+            let mut outputs = [[0x55; 16]; 3];
+            let [published, many, masked] = &mut outputs;
+            let replies = [
+                encrypt_published(&schedule, &block, published, 11, 5, form),
+                encrypt_blocks(&schedule, &block, many, &[11], 5, form),
+                encrypt_masked(&schedule, &block, masked, &masks, 11, 5, form),
+            ];
+            let expected = if form == 0 { Ok(()) } else { Err(Refusal::FormUnknown) };
+            assert_eq!(replies, [expected; 3], "form {form}");
+            assert_eq!(outputs.map(|output| output == [0x55; 16]), [form != 0; 3], "form {form}");
+        }
+    }
 }

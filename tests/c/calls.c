@@ -51,8 +51,8 @@ static void block(const char *call, const uint8_t *given, const char *expected)
     }
 }
 
-/* FIPS 197, C.3, and the published masks. At offset o byte i of the block is covered by M(o + i), of form 1 with step d by
-   M(o + 14d + i); o is 5 and d is 1 where nothing else is said. */
+/* FIPS 197, C.3, and the published masks. At offset o byte i of the block is covered by M(o + i), and of what early modules stored
+   in form 1 by M(o + 14 + i); o is 5 where nothing else is said. */
 static const char plaintext[] = "00112233445566778899aabbccddeeff";
 static const char ciphertext[] = "8ea2b7ca516745bfeafc49904b496089";
 static const char covered[] = "5c7448a6def6cab1416955bbc3ebd7ac";
@@ -109,18 +109,19 @@ static void rack(void)
     CALL(record_plain, SLIPGREASE_REPLY_RECORD_LENGTH, LENT(w), LENT(in), NONE);
 }
 
-/* The block of C.3 twice, in form 1 at offsets 5 and 7, so that the two blocks differ. */
+/* The block of C.3, and its ciphertext as another block, which the rack's engine must get back. */
 static void many(void)
 {
     static const uint8_t offsets[] = {5, 7, 16};
     uint8_t two[2 * SLIPGREASE_BLOCK_BYTES], made[2 * SLIPGREASE_BLOCK_BYTES];
     memcpy(two, in, sizeof in);
-    memcpy(two + sizeof in, in, sizeof in);
-    CALL(encrypt_blocks, SLIPGREASE_REPLY_DONE, LENT(w), LENT(two), LENT(made), offsets, 2, 1, 1);
-    block("encrypt_blocks", made, form_1);
-    block("encrypt_blocks", made + sizeof in, form_1_at_7);
+    memcpy(two + sizeof in, out, sizeof out);
+    CALL(encrypt_blocks, SLIPGREASE_REPLY_DONE, LENT(w), LENT(two), LENT(made), offsets, 2, 1, 0);
+    block("encrypt_blocks", made, ciphertext);
+    CALL(decrypt, SLIPGREASE_REPLY_DONE, LENT(w), made + sizeof in, sizeof in, LENT(table));
+    block("encrypt_blocks", table, ciphertext);
     CALL(encrypt_blocks, SLIPGREASE_REPLY_DONE, LENT(w), NONE, NONE, NONE, 1, 0);
-    CALL(encrypt_blocks, SLIPGREASE_REPLY_FORM_UNKNOWN, LENT(w), NONE, NONE, NONE, 1, 2);
+    CALL(encrypt_blocks, SLIPGREASE_REPLY_FORM_UNKNOWN, LENT(w), NONE, NONE, NONE, 1, 1);
     CALL(encrypt_blocks, SLIPGREASE_REPLY_SCHEDULE_LENGTH, NONE, NONE, NONE, NONE, 1, 0);
     CALL(encrypt_blocks, SLIPGREASE_REPLY_INPUT_LENGTH, LENT(w), two, 17, LENT(made), offsets, 2, 1, 0);
     CALL(encrypt_blocks, SLIPGREASE_REPLY_OUTPUT_LENGTH, LENT(w), NONE, LENT(made), offsets, 2, 1, 0);
@@ -128,36 +129,32 @@ static void many(void)
     CALL(encrypt_blocks, SLIPGREASE_REPLY_OFFSETS_LENGTH, LENT(w), LENT(two), LENT(made), NONE, 1, 0);
     CALL(encrypt_blocks, SLIPGREASE_REPLY_OFFSETS_LENGTH, LENT(w), LENT(two), LENT(made), LENT(offsets), 1, 0);
     CALL(encrypt_blocks, SLIPGREASE_REPLY_OFFSET_RANGE, LENT(w), LENT(two), LENT(made), offsets + 1, 2, 2, 0);
-    CALL(encrypt_blocks, SLIPGREASE_REPLY_STEP_WRONG, LENT(w), LENT(two), LENT(made), offsets, 2, 2, 2);
-    block("encrypt_blocks", made, form_1);
+    CALL(encrypt_blocks, SLIPGREASE_REPLY_STEP_WRONG, LENT(w), LENT(two), LENT(made), offsets, 2, 2, 1);
+    block("encrypt_blocks", made, ciphertext);
 }
 
 static void module(void)
 {
     CALL(encrypt_published, SLIPGREASE_REPLY_DONE, LENT(w), LENT(in), LENT(out), 5, 1, 0);
     block("encrypt_published", out, ciphertext);
-    CALL(encrypt_published, SLIPGREASE_REPLY_DONE, LENT(w), LENT(in), LENT(out), 5, 1, 1);
-    block("encrypt_published", out, form_1);
     CALL(encrypt_published, SLIPGREASE_REPLY_SCHEDULE_LENGTH, NONE, LENT(in), LENT(out), 5, 1, 0);
     CALL(encrypt_published, SLIPGREASE_REPLY_INPUT_LENGTH, LENT(w), NONE, LENT(out), 5, 1, 0);
     CALL(encrypt_published, SLIPGREASE_REPLY_OUTPUT_LENGTH, LENT(w), LENT(in), NONE, 5, 1, 0);
     CALL(encrypt_published, SLIPGREASE_REPLY_OFFSET_RANGE, LENT(w), LENT(in), LENT(out), 16, 2, 0);
-    CALL(encrypt_published, SLIPGREASE_REPLY_STEP_WRONG, LENT(w), LENT(in), LENT(out), 5, 2, 2);
-    CALL(encrypt_published, SLIPGREASE_REPLY_FORM_UNKNOWN, LENT(w), LENT(in), LENT(out), 5, 1, 2);
+    CALL(encrypt_published, SLIPGREASE_REPLY_STEP_WRONG, LENT(w), LENT(in), LENT(out), 5, 2, 1);
+    CALL(encrypt_published, SLIPGREASE_REPLY_FORM_UNKNOWN, LENT(w), LENT(in), LENT(out), 5, 1, 1);
 
     many();
 
     CALL(encrypt_masked, SLIPGREASE_REPLY_DONE, LENT(w), LENT(in), LENT(out), LENT(masks), 5, 1, 0);
     block("encrypt_masked", out, ciphertext);
-    CALL(encrypt_masked, SLIPGREASE_REPLY_DONE, LENT(w), LENT(in), LENT(out), LENT(masks), 5, 1, 1);
-    block("encrypt_masked", out, form_1);
     CALL(encrypt_masked, SLIPGREASE_REPLY_SCHEDULE_LENGTH, NONE, LENT(in), LENT(out), LENT(masks), 5, 1, 0);
     CALL(encrypt_masked, SLIPGREASE_REPLY_INPUT_LENGTH, LENT(w), NONE, LENT(out), LENT(masks), 5, 1, 0);
     CALL(encrypt_masked, SLIPGREASE_REPLY_OUTPUT_LENGTH, LENT(w), LENT(in), NONE, LENT(masks), 5, 1, 0);
     CALL(encrypt_masked, SLIPGREASE_REPLY_MASKS_LENGTH, LENT(w), LENT(in), LENT(out), NONE, 5, 1, 0);
     CALL(encrypt_masked, SLIPGREASE_REPLY_OFFSET_RANGE, LENT(w), LENT(in), LENT(out), LENT(masks), 16, 2, 0);
-    CALL(encrypt_masked, SLIPGREASE_REPLY_STEP_WRONG, LENT(w), LENT(in), LENT(out), LENT(masks), 5, 2, 2);
-    CALL(encrypt_masked, SLIPGREASE_REPLY_FORM_UNKNOWN, LENT(w), LENT(in), LENT(out), LENT(masks), 5, 1, 2);
+    CALL(encrypt_masked, SLIPGREASE_REPLY_STEP_WRONG, LENT(w), LENT(in), LENT(out), LENT(masks), 5, 2, 1);
+    CALL(encrypt_masked, SLIPGREASE_REPLY_FORM_UNKNOWN, LENT(w), LENT(in), LENT(out), LENT(masks), 5, 1, 1);
 
     CALL(record_masked, SLIPGREASE_REPLY_DONE, LENT(w), LENT(in), LENT(masks), 5, 1, LENT(record));
     block("record_masked", record, covered);
@@ -178,16 +175,19 @@ static void steps(void)
         uint8_t d = (uint8_t)i, reply = SLIPGREASE_REPLY_DONE;
         if (d == 0 || d == 2 || d == 3 || d > 15)
             reply = SLIPGREASE_REPLY_STEP_WRONG;
-        CALL(encrypt_published, reply, LENT(w), LENT(in), LENT(out), 5, d, 1);
-        CALL(encrypt_blocks, reply, LENT(w), LENT(in), LENT(table), LENT(five), d, 1);
+        memset(out, 0, sizeof out);
+        memset(table, 0, sizeof table);
+        CALL(encrypt_published, reply, LENT(w), LENT(in), LENT(out), 5, d, 0);
+        CALL(encrypt_blocks, reply, LENT(w), LENT(in), LENT(table), LENT(five), d, 0);
         if (reply == SLIPGREASE_REPLY_DONE) {
-            under("encrypt_published", out, 5 + 14 * d, ciphertext);
-            under("encrypt_blocks", table, 5 + 14 * d, ciphertext);
+            block("encrypt_published", out, ciphertext);
+            block("encrypt_blocks", table, ciphertext);
         }
-        CALL(encrypt_masked, reply, LENT(w), LENT(in), LENT(out), LENT(masks), 5, d, 1);
+        memset(out, 0, sizeof out);
+        CALL(encrypt_masked, reply, LENT(w), LENT(in), LENT(out), LENT(masks), 5, d, 0);
         CALL(record_masked, reply, LENT(w), LENT(in), LENT(masks), 5, d, LENT(record));
         if (reply == SLIPGREASE_REPLY_DONE) {
-            under("encrypt_masked", out, 5 + 14 * d, ciphertext);
+            block("encrypt_masked", out, ciphertext);
             under("record_masked", record, 5, plaintext);
             under("record_masked", record + 16 * 1, 5, "00102030405060708090a0b0c0d0e0f0");
             under("record_masked", record + 16 * 2, 5 + d, "63cab7040953d051cd60e0e7ba70e18c");
@@ -198,6 +198,29 @@ static void steps(void)
             block("record_masked", record + 16 * (SLIPGREASE_STATES - 1), ciphertext);
         }
     }
+}
+
+/* No form but 0 is taken. What early modules stored in form 1 is converted, and a second time gives it back. */
+static void forms(void)
+{
+    static const uint8_t five[] = {5};
+    for (int i = 1; i < 256; i++) {
+        uint8_t form = (uint8_t)i;
+        CALL(encrypt_published, SLIPGREASE_REPLY_FORM_UNKNOWN, LENT(w), LENT(in), LENT(out), 5, 1, form);
+        CALL(encrypt_blocks, SLIPGREASE_REPLY_FORM_UNKNOWN, LENT(w), LENT(in), LENT(out), LENT(five), 1, form);
+        CALL(encrypt_masked, SLIPGREASE_REPLY_FORM_UNKNOWN, LENT(w), LENT(in), LENT(out), LENT(masks), 5, 1, form);
+    }
+    CALL(encrypt, SLIPGREASE_REPLY_DONE, LENT(w), LENT(in), LENT(out));
+    CALL(convert, SLIPGREASE_REPLY_DONE, LENT(out), LENT(table), 5);
+    block("convert", table, form_1);
+    CALL(convert, SLIPGREASE_REPLY_DONE, LENT(table), LENT(out), 5);
+    block("convert", out, ciphertext);
+    CALL(convert, SLIPGREASE_REPLY_DONE, LENT(out), LENT(table), 7);
+    block("convert", table, form_1_at_7);
+    CALL(convert, SLIPGREASE_REPLY_INPUT_LENGTH, NONE, NONE, 16);
+    CALL(convert, SLIPGREASE_REPLY_OUTPUT_LENGTH, LENT(out), NONE, 16);
+    CALL(convert, SLIPGREASE_REPLY_OFFSET_RANGE, LENT(out), LENT(table), 16);
+    block("convert", table, form_1_at_7);
 }
 
 static void sheets(void)
@@ -268,6 +291,7 @@ int main(int count, char **words)
     rack();
     module();
     steps();
+    forms();
     sheets();
     beside();
     return faults;

@@ -52,7 +52,7 @@ abbrev pub areOffsets : List ℕ → Check
 areOffsets offsets = below (length offsets) (λ k. leb (getD offsets k 0) 15) else 6
 
 abbrev pub isForm : ℕ → Check
-isForm form = leb form 1 else 7
+isForm form = eqb form 0 else 7
 
 abbrev pub isRecord : List ℕ → Check
 isRecord states = eqb (length states) 1136 else 8

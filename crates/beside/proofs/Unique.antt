@@ -1,14 +1,15 @@
--- Uniqueness: whatever the arguments, a call's promise allows one result.
+-- Uniqueness: whatever the arguments, a call's promise allows one result, or one reply and one content of the lent buffer.
 -- Assumes nothing.
 use mathlib.Core.Path.{_≡_, refl, sym, ap, _∙_}
 use Prim.Native.Nat.{ℕ, zero, suc}
-use Rattle.aes.proofs.Unique.{Unique, valued}
+use Rattle.aes.proofs.Unique.{Unique, UniqueWriting, valued, both}
 use Rattle.beside.specs.declared.host.Sorted.{Sorted}
 use Rattle.beside.specs.declared.host.Sorted.the-variants.{GoOn, CallerFault, DataFault}
 use Rattle.beside.specs.Host.{sortedNumber}
 use Rattle.beside.proofs.fit.fitness.Reads as fitness
 use Rattle.beside.proofs.host.sort_reply.Reads as sort-reply
 use Rattle.beside.proofs.inversion.masked_inverse.Reads as masked-inverse
+use Rattle.beside.proofs.stored.convert.Reads as convert
 
 pub fitness-unique : Unique fitness.Post
 fitness-unique κs args exit x y p q = valued x y _ p q
@@ -29,3 +30,6 @@ sort-reply-unique κs args exit x y p q = sym (sort-number x) ∙ ap sortOf (p �
 
 pub masked-inverse-unique : Unique masked-inverse.Post
 masked-inverse-unique κs args exit x y p q = p ∙ sym q
+
+pub convert-unique : UniqueWriting convert.Post (λ κs e. e .1 .0 .now)
+convert-unique κs args e f x y p q = both x y _ _ _ p q

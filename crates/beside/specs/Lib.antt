@@ -1,3 +1,4 @@
 pub mod Fitness
 pub mod Host
 pub mod Inversion
+pub mod Stored

@@ -1,5 +1,6 @@
 // Tables of sixteen masks, and the mask that lies over a block or a state of a masked run.
 use crate::labels::Labels;
+use aes::add;
 use aes::mix_columns;
 use aes::shift_rows;
 
@@ -31,20 +32,10 @@ fn mask(table: [u8; 16], label: usize) -> [u8; 16] {
     r
 }
 
-// What a run writes where the cipher blocks are these, in a row, and the labels those of the first: in form 1 the mask of its last
-// label is still over each.
-pub fn finished(form: u8, table: [u8; 16], labels: Labels, cipher: [u8; 256]) -> [u8; 256] {
-    let mut r = cipher;
-    if form == 0 {
-        return r;
-    }
-    let last = labels.after(14) % 16;
-    let mut b = 0;
-    while b < 256 {
-        r[b] = r[b] ^ table[(last + b / 16 + b % 16) % 16];
-        b += 1;
-    }
-    r
+// What an early module stored of a cipher block, in form 1 with the published masks: the mask of its last label is still over it.
+pub fn stored(offset: u8, cipher: [u8; 16]) -> [u8; 16] {
+    let labels = Labels { offset, step: 1 };
+    add(cipher, mask(published(), labels.after(14)))
 }
 
 // The mask over a state, by the state's number in the record: the covered block is 0, the last key's 69, the uncovered block 70.

@@ -2,6 +2,7 @@
 -- Assumes nothing.
 use mathlib.Core.Path.{sym, _∙_}
 use Rattle.aes.proofs.Unique.{Unique, UniqueWriting, both}
+use Rattle.face.proofs.slipgrease_convert.Reads as convert
 use Rattle.face.proofs.slipgrease_decrypt.Reads as decrypt
 use Rattle.face.proofs.slipgrease_encrypt.Reads as encrypt
 use Rattle.face.proofs.slipgrease_encrypt_blocks.Reads as encrypt-blocks
@@ -67,6 +68,9 @@ read-sheet-unique κs args e f x y p q = both x y _ _ _ p q
 
 pub write-sheet-unique : UniqueWriting write-sheet.Post (λ κs e. e .1 .1 .0 .now)
 write-sheet-unique κs args e f x y p q = both x y _ _ _ p q
+
+pub convert-unique : UniqueWriting convert.Post (λ κs e. e .1 .0 .now)
+convert-unique κs args e f x y p q = both x y _ _ _ p q
 
 pub sort-reply-unique : Unique sort-reply.Post
 sort-reply-unique κs args exit x y p q = p ∙ sym q

@@ -7,6 +7,7 @@ ghost use Rattle.masked.specs.Calls.{encryptPublishedOf, encryptBlocksOf, encry
 ghost use Rattle.masks.specs.Sheet.{readSheetOf, writeSheetOf};
 ghost use Rattle.beside.specs.Fitness.{fitnessOf};
 ghost use Rattle.beside.specs.Inversion.{maskedInverse};
+ghost use Rattle.beside.specs.Stored.{convertOf};
 ghost use Rattle.beside.specs.Host.{sortedNumber, sortReplyOf};
 ghost use Rattle.face.specs.Packed.{packed, packedBeside};
 use aes::reply::Valued;
@@ -116,6 +117,13 @@ pub extern "C" fn slipgrease_fitness(masks: &[u8]) -> u16
     ensures { λ r. ⌜ r ≡ packed (fitnessOf (now (masks .entry))) ⌝ }
 {
     packed(beside::fitness(masks))
+}
+
+#[no_mangle]
+pub extern "C" fn slipgrease_convert(input: &[u8], output: &mut [u8], offset: u8) -> u8
+    ensures { λ r. ⌜ (r, now (output .exit)) ≡ convertOf (now (input .entry)) (now (output .entry)) offset ⌝ }
+{
+    beside::convert(input, output, offset)
 }
 
 #[no_mangle]

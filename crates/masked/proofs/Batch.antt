@@ -21,10 +21,10 @@ use Rattle.masked.specs.Lent.{inTurn}
 use Rattle.masks.proofs.Row.{row-same}
 
 -- a run ends in sixteen bytes
-pub masked-size : (nr form : ℕ) (M : List ℕ) (o d : ℕ) (w b : List ℕ) → length (maskedCipher nr form M o d w b) ≡ 16
+pub masked-size : (nr : ℕ) (M : List ℕ) (o d : ℕ) (w b : List ℕ) → length (maskedCipher nr M o d w b) ≡ 16
 unfolding maskedCipher maskedRecord points run last covered addRoundKey
-masked-size nr form M o d w b =
-    let f = covered form M o d w in
+masked-size nr M o d w b =
+    let f = covered M o d w in
     let ps = block ∷ wholes (nr - 1) in
     rw (run-append f ps (final (nr - 1)) b, last-append b (run f b ps) (run f (last b (run f b ps)) (final (nr - 1)))) refl
 
@@ -60,7 +60,7 @@ passed-blocks w b out offsets d form told e =
 
 -- what the loop makes is what single calls do
 pub as-single : {w b out offsets : List ℕ} {d form : ℕ} → Passed w b out offsets d form
-    → inRow (inTurn w b offsets d form) (length offsets)
+    → inRow (inTurn w b offsets d) (length offsets)
     ≡ inRow (λ k. encryptPublishedOf w (blockAt k b) (blockAt k out) (at offsets k) d form .1) (length b / 16)
 as-single {w} {b} {out} {offsets} {d} {form} p =
     rw (p .blocks)

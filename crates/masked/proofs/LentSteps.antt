@@ -18,7 +18,7 @@ use Rattle.aes.proofs.Boxes.{sBox-byte}
 use Rattle.aes.proofs.Undo.{state-bytes, add-bytes, key-bytes, shift-bytes, mix-bytes}
 use Rattle.aes.proofs.Part.{back}
 use Rattle.aes.proofs.Written.{Sized, Written, turns, recorded-one, written-block, written-turn, run-append, last-append}
-use Rattle.masks.specs.Mask.{_⊞_, label, mask, maskedBox, maskedBoxes, compensation, allCompensations, ending}
+use Rattle.masks.specs.Mask.{_⊞_, label, mask, maskedBox, maskedBoxes, compensation, allCompensations}
 use Rattle.masked.specs.Run.{covered, maskedRecord}
 use Rattle.masks.specs.Order.{boxedBy}
 use Rattle.masked.specs.Lent.{steps, pointAfter}
@@ -87,7 +87,7 @@ pub recorded-block : {f : Point → List ℕ → List ℕ} → Sized f → {s t 
     → (0 ≤ 69) × (length s ≡ 16) × (length (back xs 0 16 ys) ≡ 1136) × Written f s 1136 (block ∷ turns after 0) t (back xs 0 16 ys)
 recorded-block h l xs room et ey = recorded-so-far (lit≤ tt) l (written-block h l xs room et ey)
 
-module _ {M w : List ℕ} (hM : Bytes 16 M) (hw : Bytes 240 w) (form o d : ℕ) where
+module _ {M w : List ℕ} (hM : Bytes 16 M) (hw : Bytes 240 w) (o d : ℕ) where
   mask-bytes : (k : ℕ) → Bytes 16 (mask M o k)
   unfolding mask
   mask-bytes k = state-bytes (λ i. at M (label o k i)) (λ i. hM .byte _)
@@ -101,12 +101,7 @@ module _ {M w : List ℕ} (hM : Bytes 16 M) (hw : Bytes 240 w) (form o d : ℕ) 
   unfolding compensation
   compensation-bytes k = add-bytes (mask-bytes k) (mix-bytes (shiftRows (mask M o k)))
 
-  ending-bytes : (f : ℕ) (k : ℕ) → Bytes 16 (ending f (mask M o k))
-  unfolding ending
-  ending-bytes zero k = shift-bytes (mask-bytes k)
-  ending-bytes (suc f) k = add-bytes (mask-bytes k) (shift-bytes (mask-bytes k))
-
-  covered-bytes : (p : Point) {s : List ℕ} → Bytes 16 s → Bytes 16 (covered form M o d w p s)
+  covered-bytes : (p : Point) {s : List ℕ} → Bytes 16 s → Bytes 16 (covered M o d w p s)
   unfolding covered
   covered-bytes block h = add-bytes h (mask-bytes 0)
   covered-bytes (keyed r) h = add-bytes h (key-bytes 240 w hw r)
@@ -116,11 +111,11 @@ module _ {M w : List ℕ} (hM : Bytes 16 M) (hw : Bytes 240 w) (form o d : ℕ) 
   covered-bytes (mixed r) {s} h = mix-bytes s
   covered-bytes (compensated r) h = add-bytes h (compensation-bytes (d * suc r))
   covered-bytes (closed r) h = add-bytes h (key-bytes 240 w hw (suc r))
-  covered-bytes (uncovered r) h = add-bytes h (ending-bytes form (d * suc r))
+  covered-bytes (uncovered r) h = add-bytes h (shift-bytes (mask-bytes (d * suc r)))
 
   -- the steps as a run of fourteen rounds has them
   abbrev lent : Point → List ℕ → List ℕ
-  lent = steps w (maskedBoxes M d) (allCompensations M) o d (ending form (mask M 0 ((o + d * 14) % 16)))
+  lent = steps w (maskedBoxes M d) (allCompensations M) o d (shiftRows (mask M 0 ((o + d * 14) % 16)))
 
   -- behind the covered block, and uncovered after round 13 alone
   due : Point → Bool
@@ -133,7 +128,7 @@ module _ {M w : List ℕ} (hM : Bytes 16 M) (hw : Bytes 240 w) (form o d : ℕ) 
   due (closed r) = true
   due (uncovered r) = eqb r 13
 
-  lent-is : (p : Point) → T (due p) → (s : List ℕ) → Bytes 16 s → lent p s ≡ covered form M o d w p s
+  lent-is : (p : Point) → T (due p) → (s : List ℕ) → Bytes 16 s → lent p s ≡ covered M o d w p s
   unfolding due steps covered boxedBy table
   lent-is (keyed r) t s h = refl
   lent-is (boxed r) t s h =
@@ -145,7 +140,7 @@ module _ {M w : List ℕ} (hM : Bytes 16 M) (hw : Bytes 240 w) (form o d : ℕ) 
       ap (λ (k : List ℕ). s ⊞ k) (constant-at M ((o + d * suc r) % 16) (omega arith) ∙ ap compensation (mask-turn M o (d * suc r)))
   lent-is (closed r) t s h = refl
   lent-is (uncovered r) t s h =
-      ap (λ (m : List ℕ). s ⊞ ending form m) (mask-turn M o (d * 14) ∙ ap (λ (k : ℕ). mask M o (d * suc k)) (sym (eqb→eq r 13 t)))
+      ap (λ (m : List ℕ). s ⊞ shiftRows m) (mask-turn M o (d * 14) ∙ ap (λ (k : ℕ). mask M o (d * suc k)) (sym (eqb→eq r 13 t)))
 
   run-block : (s : List ℕ) (ps : List Point) → run lent s (block ∷ ps) ≡ s ∷ run lent s ps
   unfolding run steps
@@ -155,18 +150,18 @@ module _ {M w : List ℕ} (hM : Bytes 16 M) (hw : Bytes 240 w) (form o d : ℕ) 
   all-due [] = true
   all-due (p ∷ ps) = due p && all-due ps
 
-  run-is : (ps : List Point) → T (all-due ps) → (s : List ℕ) → Bytes 16 s → run lent s ps ≡ run (covered form M o d w) s ps
+  run-is : (ps : List Point) → T (all-due ps) → (s : List ℕ) → Bytes 16 s → run lent s ps ≡ run (covered M o d w) s ps
   unfolding all-due run
   run-is [] t s h = refl
   run-is (p ∷ ps) t s h =
       let both = and-yes (due p) (all-due ps) t in
       rw (lent-is p (both .0) s h)
-      (ap (λ (u : List (List ℕ)). covered form M o d w p s ∷ u) (run-is ps (both .1) (covered form M o d w p s) (covered-bytes p h)))
+      (ap (λ (u : List (List ℕ)). covered M o d w p s ∷ u) (run-is ps (both .1) (covered M o d w p s) (covered-bytes p h)))
 
   -- what a run of the steps records, where it is lent the right tables and starts from the covered block
   pub lent-record : {input : List ℕ} → Bytes 16 input → (s b c end : List ℕ) → s ≡ input ⊞ mask M 0 (o % 16) → b ≡ maskedBoxes M d
-      → c ≡ allCompensations M → end ≡ ending form (mask M 0 ((o + d * 14) % 16))
-      → run (steps w b c o d end) s (points 14) ≡ maskedRecord 14 form M o d w input
+      → c ≡ allCompensations M → end ≡ shiftRows (mask M 0 ((o + d * 14) % 16))
+      → run (steps w b c o d end) s (points 14) ≡ maskedRecord 14 M o d w input
   unfolding maskedRecord points wholes all-due due covered
   lent-record {input} h s b c end es eb ec ee =
       let zero-on : o % 16 ≡ (o + 0) % 16 = omega arith in
@@ -174,4 +169,4 @@ module _ {M w : List ℕ} (hM : Bytes 16 M) (hw : Bytes 240 w) (form o d : ℕ) 
       (λ i. run (steps w (eb i) (ec i) o d (ee i)) (start i) (points 14))
       ∙ run-block (input ⊞ mask M o 0) (wholes 13 ++ final 13)
       ∙ ap (λ (u : List (List ℕ)). (input ⊞ mask M o 0) ∷ u) (run-is (wholes 13 ++ final 13) tt (input ⊞ mask M o 0) (add-bytes h (mask-bytes 0)))
-      ∙ sym (run-first (covered form M o d w) input block (wholes 13 ++ final 13))
+      ∙ sym (run-first (covered M o d w) input block (wholes 13 ++ final 13))

@@ -21,7 +21,7 @@ publishedChecks schedule input output offset step form =
 
 abbrev pub encryptPublishedOf : List ℕ → List ℕ → List ℕ → ℕ → ℕ → ℕ → ℕ × List ℕ
 encryptPublishedOf schedule input output offset step form =
-    answer (publishedChecks schedule input output offset step form) output (maskedCipher 14 form published offset step schedule input)
+    answer (publishedChecks schedule input output offset step form) output (maskedCipher 14 published offset step schedule input)
 
 -- block k of many
 abbrev pub blockAt : ℕ → List ℕ → List ℕ
@@ -39,9 +39,9 @@ encryptBlocksOf schedule input output offsets step form =
 
 abbrev pub encryptMaskedOf : List ℕ → List ℕ → List ℕ → List ℕ → ℕ → ℕ → ℕ → ℕ × List ℕ
 encryptMaskedOf schedule input output masks offset step form =
-    answer (checks schedule input output masks offset step form) output (maskedCipher 14 form masks offset step schedule input)
+    answer (checks schedule input output masks offset step form) output (maskedCipher 14 masks offset step schedule input)
 
 abbrev pub recordMaskedOf : List ℕ → List ℕ → List ℕ → ℕ → ℕ → List ℕ → ℕ × List ℕ
 recordMaskedOf schedule input masks offset step states =
     answer (isSchedule schedule ∷ isInput input ∷ isMaskTable masks ∷ isOffset offset ∷ isStep step ∷ isRecord states ∷ []) states
-    (bytes (maskedRecord 14 0 masks offset step schedule input))
+    (bytes (maskedRecord 14 masks offset step schedule input))

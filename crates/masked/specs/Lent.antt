@@ -32,5 +32,5 @@ unfoldable pub pointAfter : ℕ → Point
 pointAfter n = getD (five (n / 5)) (n % 5) block
 
 -- block k of many, with the published masks at its own offset
-abbrev pub inTurn : List ℕ → List ℕ → List ℕ → ℕ → ℕ → ℕ → List ℕ
-inTurn schedule input offsets step form k = maskedCipher 14 form published (at offsets k) step schedule (blockAt k input)
+abbrev pub inTurn : List ℕ → List ℕ → List ℕ → ℕ → ℕ → List ℕ
+inTurn schedule input offsets step k = maskedCipher 14 published (at offsets k) step schedule (blockAt k input)

@@ -5,22 +5,22 @@ use Prim.Native.Nat.{ℕ, suc, _*_}
 use Rattle.aes.specs.State.{at, state, shiftRows, mixColumns}
 use Rattle.aes.specs.Key.{roundKey}
 use Rattle.aes.specs.Record.{Point, block, keyed, boxed, shifted, mixed, compensated, closed, uncovered, points, run, last}
-use Rattle.masks.specs.Mask.{_⊞_, label, mask, maskedBox, compensation, ending}
+use Rattle.masks.specs.Mask.{_⊞_, label, mask, maskedBox, compensation}
 
--- at offset o over the masks M, whose labels advance by d from round to round, and the schedule w, ending in a form
-unfoldable pub covered : ℕ → List ℕ → ℕ → ℕ → List ℕ → Point → List ℕ → List ℕ
-covered form M o d w block s = s ⊞ mask M o 0
-covered form M o d w (keyed r) s = s ⊞ roundKey w r
-covered form M o d w (boxed r) s = state (λ i. maskedBox M d (label o (d * r) i) (at s i))
-covered form M o d w (shifted r) s = shiftRows s
-covered form M o d w (mixed r) s = mixColumns s
-covered form M o d w (compensated r) s = s ⊞ compensation (mask M o (d * suc r))
-covered form M o d w (closed r) s = s ⊞ roundKey w (suc r)
-covered form M o d w (uncovered r) s = s ⊞ ending form (mask M o (d * suc r))
+-- at offset o over the masks M, whose labels advance by d from round to round, and the schedule w
+unfoldable pub covered : List ℕ → ℕ → ℕ → List ℕ → Point → List ℕ → List ℕ
+covered M o d w block s = s ⊞ mask M o 0
+covered M o d w (keyed r) s = s ⊞ roundKey w r
+covered M o d w (boxed r) s = state (λ i. maskedBox M d (label o (d * r) i) (at s i))
+covered M o d w (shifted r) s = shiftRows s
+covered M o d w (mixed r) s = mixColumns s
+covered M o d w (compensated r) s = s ⊞ compensation (mask M o (d * suc r))
+covered M o d w (closed r) s = s ⊞ roundKey w (suc r)
+covered M o d w (uncovered r) s = s ⊞ shiftRows (mask M o (d * suc r))
 
 -- the recorded states of a run of nr rounds, and the block that it ends with
-unfoldable pub maskedRecord : ℕ → ℕ → List ℕ → ℕ → ℕ → List ℕ → List ℕ → List (List ℕ)
-maskedRecord nr form M o d w input = run (covered form M o d w) input (points nr)
+unfoldable pub maskedRecord : ℕ → List ℕ → ℕ → ℕ → List ℕ → List ℕ → List (List ℕ)
+maskedRecord nr M o d w input = run (covered M o d w) input (points nr)
 
-unfoldable pub maskedCipher : ℕ → ℕ → List ℕ → ℕ → ℕ → List ℕ → List ℕ → List ℕ
-maskedCipher nr form M o d w input = last input (maskedRecord nr form M o d w input)
+unfoldable pub maskedCipher : ℕ → List ℕ → ℕ → ℕ → List ℕ → List ℕ → List ℕ
+maskedCipher nr M o d w input = last input (maskedRecord nr M o d w input)

@@ -25,7 +25,7 @@ use steps::mix_columns;
 use steps::shift_rows;
 use steps::uncover;
 
-// The 71 states, in form 0.
+// The 71 states.
 pub(crate) fn recorded(
     block: Block,
     w: &[u8],
@@ -36,7 +36,7 @@ pub(crate) fn recorded(
     states: &mut [u8],
 )
     requires { ⌜ (length (now w) ≡ 240) × (now boxes ≡ maskedBoxes (masks .0) (masks .1)) × (now compensations ≡ allCompensations (masks .0)) × (length (now states) ≡ 1136) × (masks .2 ≡ twice (masks .0)) ⌝ }
-    ensures { λ _. ⌜ now (states .exit) ≡ bytes (maskedRecord 14 0 (masks .0) offset (masks .1) (now (w .entry)) (block .0)) ⌝ }
+    ensures { λ _. ⌜ now (states .exit) ≡ bytes (maskedRecord 14 (masks .0) offset (masks .1) (now (w .entry)) (block .0)) ⌝ }
 {
     let mut s = cover(block, masks, offset, &mut states[0..16]);
     let mut n = 0;
@@ -47,10 +47,10 @@ pub(crate) fn recorded(
         s = t;
         n += 1;
     }
-    uncover(s, masks, 0, &mut states[1120..1136]);
+    uncover(s, masks, &mut states[1120..1136]);
 }
 
-// The finished block alone, in either form. The last step is lent the output, and all before it a scratch.
+// The finished block alone. The last step is lent the output, and all before it a scratch.
 pub(crate) fn unrecorded(
     block: Block,
     w: &[u8],
@@ -58,11 +58,10 @@ pub(crate) fn unrecorded(
     boxes: &[u8; 4096],
     compensations: &[u8; 256],
     offset: u8,
-    form: u8,
     output: &mut [u8],
 )
     requires { ⌜ (length (now w) ≡ 240) × (now boxes ≡ maskedBoxes (masks .0) (masks .1)) × (now compensations ≡ allCompensations (masks .0)) × (length (now output) ≡ 16) × (masks .2 ≡ twice (masks .0)) ⌝ }
-    ensures { λ _. ⌜ now (output .exit) ≡ maskedCipher 14 form (masks .0) offset (masks .1) (now (w .entry)) (block .0) ⌝ }
+    ensures { λ _. ⌜ now (output .exit) ≡ maskedCipher 14 (masks .0) offset (masks .1) (now (w .entry)) (block .0) ⌝ }
 {
     let mut part = [0u8; 16];
     let s = cover(block, masks, offset, &mut part);
@@ -73,7 +72,7 @@ pub(crate) fn unrecorded(
         t = v;
     }
     let u = add_key(t, w, &mut part);
-    uncover(u, masks, form, output);
+    uncover(u, masks, output);
 }
 
 // The step at point n after the covered block, five to a round; the last round is closed. The last point uncovers, and is apart.

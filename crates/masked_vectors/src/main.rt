@@ -67,7 +67,7 @@ fn one_line(text: &[u8], source: usize, counts: &mut [u64; CELLS]) -> bool {
 fn ecb(row: Row, counts: &mut [u64; CELLS]) -> bool {
     let first = row.first;
     if first.read {
-        one::ecb(row, counts);
+        one::ecb(first, counts);
         many::ecb(row, counts);
     }
     first.read

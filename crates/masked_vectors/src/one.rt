@@ -1,55 +1,43 @@
 // The calls that encrypt one block, with the published masks and with others.
 use crate::table;
 use aes::reply::DONE;
-use check::same;
 use covers::labels::ALL;
 use covers::labels::Labels;
 use covers::labels::turned;
 use covers::mask;
-use covers::mask::finished;
 use lines::counts::CELLS;
 use lines::counts::Tally;
 use lines::counts::add;
 use lines::counts::count;
-use lines::row::Row;
 use lines::vector;
 use lines::vector::Vector;
 use lines::vector::same_block;
 
-// Both calls in both forms.
-pub fn ecb(row: Row, counts: &mut [u64; CELLS]) {
-    add(counts, table::PUBLISHED_ECB, encrypted(false, 0, row));
-    add(counts, table::PUBLISHED_FORM_1, encrypted(false, 1, row));
-    add(counts, table::OTHER_ECB, encrypted(true, 0, row));
-    add(counts, table::OTHER_FORM_1, encrypted(true, 1, row));
+// By either call.
+pub fn ecb(v: Vector, counts: &mut [u64; CELLS]) {
+    add(counts, table::PUBLISHED_ECB, encrypted(false, v));
+    add(counts, table::OTHER_ECB, encrypted(true, v));
 }
 
-// The first vector with all labels. Where its key is refused, a schedule of zeros leads to differences.
-fn encrypted(other: bool, form: u8, row: Row) -> Tally {
-    let first = row.first;
-    let key = first.key;
+// With all labels. Where the key is refused, a schedule of zeros leads to differences.
+fn encrypted(other: bool, v: Vector) -> Tally {
+    let key = v.key;
     let mut schedule = [0u8; 240];
     aes::expand_key(&key, &mut schedule);
     let mut tally = Tally::none();
     let mut i = 0;
     while i < ALL {
-        tally = tally.with(encrypts(other, &schedule, turned(i), form, row));
+        tally = tally.with(encrypts(other, &schedule, turned(i), v));
         i += 1;
     }
     tally
 }
 
-fn encrypts(other: bool, schedule: &[u8; 240], labels: Labels, form: u8, row: Row) -> bool {
-    let first = row.first;
-    let plain = first.plain;
-    let cipher = first.cipher;
+fn encrypts(other: bool, schedule: &[u8; 240], labels: Labels, v: Vector) -> bool {
+    let plain = v.plain;
+    let cipher = v.cipher;
     let masks = mask::table(other, cipher);
-    let ciphers = row.cipher;
-    let expected = finished(form, masks, labels, ciphers);
-    same(
-        &made(other, schedule, plain, masks, labels, form),
-        &expected[0..16],
-    )
+    same_block(made(other, schedule, plain, masks, labels), cipher)
 }
 
 // By either call.
@@ -62,7 +50,7 @@ pub fn chain(line: &[u8], counts: &mut [u64; CELLS]) -> bool {
     v.read
 }
 
-// Whether a thousand calls in form 0, each on the output of the one before and with other labels, lead from the plain block to the
+// Whether a thousand calls, each on the output of the one before and with other labels, lead from the plain block to the
 // cipher block.
 fn leads(other: bool, v: Vector) -> bool {
     let key = v.key;
@@ -73,7 +61,7 @@ fn leads(other: bool, v: Vector) -> bool {
     let mut block = v.plain;
     let mut i = 0;
     while i < 1000 {
-        let next = made(other, &schedule, block, masks, turned(i), 0);
+        let next = made(other, &schedule, block, masks, turned(i));
         block = next;
         i += 1;
     }
@@ -87,10 +75,9 @@ fn made(
     block: [u8; 16],
     masks: [u8; 16],
     labels: Labels,
-    form: u8,
 ) -> [u8; 16] {
     let mut output = [0u8; 16];
-    if answer(other, schedule, &block, &masks, labels, form, &mut output) != DONE {
+    if answer(other, schedule, &block, &masks, labels, &mut output) != DONE {
         return [0u8; 16];
     }
     output
@@ -103,13 +90,12 @@ pub fn answer(
     input: &[u8; 16],
     masks: &[u8; 16],
     labels: Labels,
-    form: u8,
     output: &mut [u8; 16],
 ) -> u8 {
     let offset = labels.offset;
     let step = labels.step;
     if other {
-        return masked::encrypt_masked(schedule, input, output, masks, offset, step, form);
+        return masked::encrypt_masked(schedule, input, output, masks, offset, step, 0);
     }
-    masked::encrypt_published(schedule, input, output, offset, step, form)
+    masked::encrypt_published(schedule, input, output, offset, step, 0)
 }

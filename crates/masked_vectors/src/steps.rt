@@ -31,7 +31,7 @@ fn replied(step: u8, reply: u8) -> Tally {
 // The reply depends neither on the key nor on blocks and masks: these are zeros.
 fn answer(call: usize, labels: Labels) -> u8 {
     if call == 2 {
-        return many::answer(&[0; 240], &[0; 256], labels, 0, &mut [0; 256]);
+        return many::answer(&[0; 240], &[0; 256], labels, &mut [0; 256]);
     }
     one::answer(
         call == 1,
@@ -39,7 +39,6 @@ fn answer(call: usize, labels: Labels) -> u8 {
         &[0; 16],
         &[0; 16],
         labels,
-        0,
         &mut [0; 16],
     )
 }

@@ -4,32 +4,23 @@ use lines::counts::print_table;
 
 pub const PUBLISHED_ECB: usize = 0;
 
-pub const PUBLISHED_FORM_1: usize = 1;
+pub const PUBLISHED_CHAINS: usize = 1;
 
-pub const PUBLISHED_CHAINS: usize = 2;
+pub const MANY_ECB: usize = 2;
 
-pub const MANY_ECB: usize = 3;
+pub const OTHER_ECB: usize = 3;
 
-pub const MANY_FORM_1: usize = 4;
+pub const OTHER_CHAINS: usize = 4;
 
-pub const OTHER_ECB: usize = 5;
-
-pub const OTHER_FORM_1: usize = 6;
-
-pub const OTHER_CHAINS: usize = 7;
-
-pub const STEPS: usize = 8;
+pub const STEPS: usize = 5;
 
 pub fn print(counts: &[u64; CELLS]) {
     let mut table = *b"\
 AES-256 vectors, masked engine                 run   differ
   published masks: NIST ECB                      0        0
-  published masks: NIST ECB, form 1              0        0
   published masks: chains                        0        0
   many blocks: NIST ECB                          0        0
-  many blocks: NIST ECB, form 1                  0        0
   other masks: NIST ECB                          0        0
-  other masks: NIST ECB, form 1                  0        0
   other masks: chains                            0        0
   replies to a step                              0        0
   all                                            0        0

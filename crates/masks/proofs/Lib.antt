@@ -2,7 +2,6 @@ pub mod Row
 pub mod Stored
 pub mod Columns
 pub mod Turned
-pub mod Endings
 pub mod Headed
 pub mod Counted
 pub mod Ordered

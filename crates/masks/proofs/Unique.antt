@@ -9,7 +9,6 @@ use Rattle.masks.specs.declared.label.Label.{Label}
 use Rattle.masks.proofs.answers.answers.Reads as answers
 use Rattle.masks.proofs.boxes.made.Reads as made
 use Rattle.masks.proofs.constants.compensations.Reads as compensations
-use Rattle.masks.proofs.constants.ending.Reads as ending
 use Rattle.masks.proofs.constants.mask.Reads as mask
 use Rattle.masks.proofs.constants.published.Reads as published
 use Rattle.masks.proofs.constants.stored_compensations.Reads as stored-compensations
@@ -51,9 +50,6 @@ twice-unique κs args exit x y p q = p ∙ sym q
 
 pub mask-unique : Unique mask.Post
 mask-unique κs args exit x y p q = p ∙ sym q
-
-pub ending-unique : Unique ending.Post
-ending-unique κs args exit x y p q = p ∙ sym q
 
 pub compensations-unique : UniqueWriting compensations.Post (λ κs e. e .1 .0 .now)
 compensations-unique κs args e f x y p q = (refl, p ∙ sym q)

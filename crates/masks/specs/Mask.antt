@@ -36,11 +36,6 @@ maskedBox M d j x = sBox (x ⊕ at M (j % 16)) ⊕ at M ((j + d) % 16)
 unfoldable pub compensation : List ℕ → List ℕ
 compensation m = m ⊞ mixColumns (shiftRows m)
 
--- the last constant, by the mask that covers the finished block: form 0 uncovers it, form 1 leaves the mask there
-unfoldable pub ending : ℕ → List ℕ → List ℕ
-ending zero m = shiftRows m
-ending (suc form) m = m ⊞ shiftRows m
-
 -- f 0, f 1, .. f (n - 1), one after the other
 unfoldable pub inRow : (ℕ → List ℕ) → ℕ → List ℕ
 inRow f zero = []

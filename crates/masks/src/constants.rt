@@ -2,7 +2,7 @@
 ghost use mathlib.Core.Path.{_≡_};
 ghost use Prim.Native.Nat.{_+_, _%_};
 ghost use lib.ListN.{length};
-ghost use Rattle.masks.specs.Mask.{published, twice, mask, compensation, inRow, allCompensations, ending};
+ghost use Rattle.masks.specs.Mask.{published, twice, mask, compensation, inRow, allCompensations};
 ghost use Rattle.aes.specs.State.{at, state};
 ghost use Rattle.aes.specs.Held.{Holds};
 use crate::label::Label;
@@ -74,16 +74,6 @@ pub fn mask(twice: [u8; 32], l: Label) -> [u8; 16]
         p = next;
     }
     r
-}
-
-// The last constant of a run, by the mask that covers its finished block.
-pub fn ending(form: u8, m: [u8; 16]) -> [u8; 16]
-    ensures { λ r. ⌜ r ≡ ending form m ⌝ }
-{
-    if form == 0 {
-        return shift_rows(m);
-    }
-    add(m, shift_rows(m))
 }
 
 // Compensation(0) to Compensation(15) for any masks, to the lent place. Each is the one of the label four before it turned by a

@@ -9,7 +9,7 @@ use Rattle.aes.specs.Record.{Point, block, keyed, boxed, shifted, mixed, compen
 use Rattle.aes.proofs.Xor.{sums}
 use Rattle.aes.proofs.Undo.{mix-add, shift-add}
 use Rattle.aes.proofs.Written.{last-append}
-use Rattle.masks.specs.Mask.{_⊞_, ending}
+use Rattle.masks.specs.Mask.{_⊞_}
 use Rattle.theorems.specs.MaskTable.{bare, summed}
 use Rattle.theorems.proofs.Cover.{Linked, linked-append, cover}
 
@@ -17,11 +17,11 @@ add-swap : (s m k : List ℕ) → s ⊞ m ⊞ k ≡ s ⊞ k ⊞ m
 unfolding addRoundKey
 add-swap s m k = simp sums
 
-add-change : (s c m : List ℕ) → s ⊞ c ⊞ (m ⊞ c) ≡ s ⊞ m
+pub add-change : (s c m : List ℕ) → s ⊞ c ⊞ (m ⊞ c) ≡ s ⊞ m
 unfolding addRoundKey
 add-change s c m = simp sums
 
-add-gone : (s m : List ℕ) → s ⊞ m ⊞ m ≡ s ⊞ bare
+pub add-gone : (s m : List ℕ) → s ⊞ m ⊞ m ≡ s ⊞ bare
 unfolding addRoundKey
 add-gone s m = simp sums
 
@@ -30,30 +30,26 @@ unfolding addRoundKey
 add-bare a b = simp sums
 
 -- The steps of a masked run over any sequence K of masks, where K r lies on the state that round r begins with.
-unfoldable pub coveredBy : ℕ → (ℕ → List ℕ) → List ℕ → Point → List ℕ → List ℕ
-coveredBy form K w block s = s ⊞ K 0
-coveredBy form K w (keyed r) s = s ⊞ roundKey w r
-coveredBy form K w (boxed r) s = subBytes (s ⊞ K r) ⊞ K (suc r)
-coveredBy form K w (shifted r) s = shiftRows s
-coveredBy form K w (mixed r) s = mixColumns s
-coveredBy form K w (compensated r) s = s ⊞ (K (suc r) ⊞ mixColumns (shiftRows (K (suc r))))
-coveredBy form K w (closed r) s = s ⊞ roundKey w (suc r)
-coveredBy form K w (uncovered r) s = s ⊞ ending form (K (suc r))
+unfoldable pub coveredBy : (ℕ → List ℕ) → List ℕ → Point → List ℕ → List ℕ
+coveredBy K w block s = s ⊞ K 0
+coveredBy K w (keyed r) s = s ⊞ roundKey w r
+coveredBy K w (boxed r) s = subBytes (s ⊞ K r) ⊞ K (suc r)
+coveredBy K w (shifted r) s = shiftRows s
+coveredBy K w (mixed r) s = mixColumns s
+coveredBy K w (compensated r) s = s ⊞ (K (suc r) ⊞ mixColumns (shiftRows (K (suc r))))
+coveredBy K w (closed r) s = s ⊞ roundKey w (suc r)
+coveredBy K w (uncovered r) s = s ⊞ shiftRows (K (suc r))
 
--- what the form leaves on the finished block; the mask at each point, and before it
-unfoldable pub left : ℕ → List ℕ → List ℕ
-left zero m = bare
-left (suc form) m = m
-
-unfoldable pub maskBy : ℕ → (ℕ → List ℕ) → Point → List ℕ
-maskBy form K block = K 0
-maskBy form K (keyed r) = K r
-maskBy form K (boxed r) = K (suc r)
-maskBy form K (shifted r) = shiftRows (K (suc r))
-maskBy form K (mixed r) = mixColumns (shiftRows (K (suc r)))
-maskBy form K (compensated r) = K (suc r)
-maskBy form K (closed r) = shiftRows (K (suc r))
-maskBy form K (uncovered r) = left form (K (suc r))
+-- the mask at each point, and before it
+unfoldable pub maskBy : (ℕ → List ℕ) → Point → List ℕ
+maskBy K block = K 0
+maskBy K (keyed r) = K r
+maskBy K (boxed r) = K (suc r)
+maskBy K (shifted r) = shiftRows (K (suc r))
+maskBy K (mixed r) = mixColumns (shiftRows (K (suc r)))
+maskBy K (compensated r) = K (suc r)
+maskBy K (closed r) = shiftRows (K (suc r))
+maskBy K (uncovered r) = bare
 
 before : (ℕ → List ℕ) → Point → List ℕ
 before K block = bare
@@ -69,15 +65,9 @@ box-add : (s k m : List ℕ) → subBytes (s ⊞ k ⊞ k) ⊞ m ≡ subBytes s �
 unfolding subBytes addRoundKey
 box-add s k m = simp sums
 
--- what is left of the mask once the last constant is added
-ends : (form : ℕ) (s m : List ℕ) → s ⊞ shiftRows m ⊞ ending form m ≡ s ⊞ left form m
-unfolding ending left
-ends zero s m = add-gone s (shiftRows m)
-ends (suc form) s m = add-change s (shiftRows m) m
-
-module _ (form : ℕ) (K : ℕ → List ℕ) where
+module _ (K : ℕ → List ℕ) where
   -- a covered step takes the mask before its point to the mask at it
-  step : (w : List ℕ) (p : Point) (s : List ℕ) → coveredBy form K w p (s ⊞ before K p) ≡ plain w p s ⊞ maskBy form K p
+  step : (w : List ℕ) (p : Point) (s : List ℕ) → coveredBy K w p (s ⊞ before K p) ≡ plain w p s ⊞ maskBy K p
   unfolding before coveredBy plain maskBy
   step w block s = add-bare s (K 0)
   step w (keyed r) s = add-swap s (K r) (roundKey w r)
@@ -86,29 +76,29 @@ module _ (form : ℕ) (K : ℕ → List ℕ) where
   step w (mixed r) s = mix-add s (shiftRows (K (suc r)))
   step w (compensated r) s = add-change s (mixColumns (shiftRows (K (suc r)))) (K (suc r))
   step w (closed r) s = add-swap s (shiftRows (K (suc r))) (roundKey w (suc r))
-  step w (uncovered r) s = ends form s (K (suc r))
+  step w (uncovered r) s = add-gone s (shiftRows (K (suc r)))
 
-  last-wholes : (n : ℕ) → last (K 0) (map (maskBy form K) (wholes n)) ≡ K n
+  last-wholes : (n : ℕ) → last (K 0) (map (maskBy K) (wholes n)) ≡ K n
   unfolding wholes last maskBy
   last-wholes zero = refl
   last-wholes (suc n) = rw (map-append, last-append)
 
-  linked-wholes : (n : ℕ) → Linked (before K) (maskBy form K) (K 0) (wholes n)
+  linked-wholes : (n : ℕ) → Linked (before K) (maskBy K) (K 0) (wholes n)
   unfolding wholes before maskBy
   linked-wholes zero = tt
   linked-wholes (suc n) =
-      linked-append (before K) (maskBy form K) (wholes n) (whole n) (K 0) (linked-wholes n)
+      linked-append (before K) (maskBy K) (wholes n) (whole n) (K 0) (linked-wholes n)
       (sym (last-wholes n), (refl, (refl, (refl, (refl, tt)))))
 
-  linked : (n : ℕ) → Linked (before K) (maskBy form K) (K 0) (wholes n ++ final n)
+  linked : (n : ℕ) → Linked (before K) (maskBy K) (K 0) (wholes n ++ final n)
   unfolding before maskBy
   linked n =
-      linked-append (before K) (maskBy form K) (wholes n) (final n) (K 0) (linked-wholes n)
+      linked-append (before K) (maskBy K) (wholes n) (final n) (K 0) (linked-wholes n)
       (sym (last-wholes n), (refl, (refl, (refl, (refl, tt)))))
 
   pub relation-any : (w : List ℕ) (nr : ℕ) (b : List ℕ)
-      → run (coveredBy form K w) b (points nr) ≡ summed (plainRecord nr w b) (map (maskBy form K) (points nr))
+      → run (coveredBy K w) b (points nr) ≡ summed (plainRecord nr w b) (map (maskBy K) (points nr))
   unfolding run summed points plainRecord coveredBy plain maskBy
   relation-any w nr b =
       ap (λ (u : List (List ℕ)). b ⊞ K 0 ∷ u)
-      (cover (plain w) (coveredBy form K w) (before K) (maskBy form K) (step w) (wholes (nr - 1) ++ final (nr - 1)) (K 0) b (linked (nr - 1)))
+      (cover (plain w) (coveredBy K w) (before K) (maskBy K) (step w) (wholes (nr - 1) ++ final (nr - 1)) (K 0) b (linked (nr - 1)))

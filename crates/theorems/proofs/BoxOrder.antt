@@ -26,8 +26,7 @@ use Rattle.masked.specs.Calls.{blockAt, recordMaskedOf}
 use Rattle.masks.proofs.Ordered.{order-below, lucky}
 use Rattle.theorems.specs.MaskTable.{maskAt}
 use Rattle.theorems.specs.Neighbours.{betweenStates, betweenRecorded, betweenBare, betweenMasks}
-use Rattle.theorems.proofs.AnyMasks.{maskBy}
-use Rattle.theorems.proofs.Relation.{plain-at, maskAt-is, mask-entry, relation-form-at}
+use Rattle.theorems.proofs.Relation.{mask-entry, relation-cipher}
 use Rattle.theorems.proofs.RecordStates.{add-at, published-length, masked-states}
 
 -- the points of round r: state 5 r + 1 is that after its key, and the next that after its boxes
@@ -68,26 +67,23 @@ module _ (order : List ℕ) (positions : (k : ℕ) → k < 16 → at order k < 1
       rw (add-at t n (at order k) (positions k (omega arith)), add-at s m (at order (k + 1)) (positions (k + 1) (omega arith))) (simp sums)
 
   module _ (M : List ℕ) (o d : ℕ) (w b : List ℕ) (r k : ℕ) (hk : k < 15) where
-    -- in a run of any number of rounds and in either form: the xor of the two bytes of CIPHER, under the xor of their masks
-    pub between-states : (nr form : ℕ) → r < nr
-        → betweenStates order (maskedRecord nr form M o d w b) r k ≡ betweenBare order w b r k ⊕ betweenMasks order M o d r k
-    unfolding maskBy
-    between-states nr form hr =
+    -- in a run of any number of rounds: the xor of the two bytes of CIPHER, under the xor of their masks
+    pub between-states : (nr : ℕ) → r < nr
+        → betweenStates order (maskedRecord nr M o d w b) r k ≡ betweenBare order w b r k ⊕ betweenMasks order M o d r k
+    between-states nr hr =
         let within = round-within nr r hr in
-        let taken : getD (maskedRecord nr form M o d w b) (5 * r + 1) [] ≡ cipherAt w b (keyed r) ⊞ maskAt M o d (keyed r) =
-        relation-form-at M o d w nr b form (5 * r + 1) (omega arith)
-        ∙ rw (plain-at w b nr (5 * r + 1) (omega arith), round-at nr r 0 (5 * r + 1) hr (omega arith) (omega arith), maskAt-is M o d (keyed r)) in
-        let given : getD (maskedRecord nr form M o d w b) (5 * r + 2) [] ≡ cipherAt w b (boxed r) ⊞ maskAt M o d (boxed r) =
-        relation-form-at M o d w nr b form (5 * r + 2) within
-        ∙ rw (plain-at w b nr (5 * r + 2) within, round-at nr r 1 (5 * r + 2) hr (omega arith) (omega arith), maskAt-is M o d (boxed r)) in
+        let taken : getD (maskedRecord nr M o d w b) (5 * r + 1) [] ≡ cipherAt w b (keyed r) ⊞ maskAt M o d (keyed r) =
+        relation-cipher M o d w nr b (5 * r + 1) (omega arith) ∙ rw (round-at nr r 0 (5 * r + 1) hr (omega arith) (omega arith)) in
+        let given : getD (maskedRecord nr M o d w b) (5 * r + 2) [] ≡ cipherAt w b (boxed r) ⊞ maskAt M o d (boxed r) =
+        relation-cipher M o d w nr b (5 * r + 2) within ∙ rw (round-at nr r 1 (5 * r + 2) hr (omega arith) (omega arith)) in
         rw (taken, given) (between-add _ _ _ _ k hk)
 
     -- the same of the states that record_masked writes
     pub between-recorded : length M ≡ 16 → (states : List ℕ) → length w ≡ 240 → length b ≡ 16 → length states ≡ 1136 → o ≤ 15 → T (taken d) → r < 14
         → betweenRecorded order (recordMaskedOf w b M o d states .1) r k ≡ betweenBare order w b r k ⊕ betweenMasks order M o d r k
     between-recorded lm states lw lb ls ho t hr =
-        let written : (q : ℕ) → q < 71 → blockAt q (recordMaskedOf w b M o d states .1) ≡ getD (maskedRecord 14 0 M o d w b) q [] = masked-states w b states lw lb ls M lm o ho d t in
-        (λ i. between order (written (5 * r + 1) (omega arith) i) (written (5 * r + 2) (omega arith) i) k) ∙ between-states 14 0 hr
+        let written : (q : ℕ) → q < 71 → blockAt q (recordMaskedOf w b M o d states .1) ≡ getD (maskedRecord 14 M o d w b) q [] = masked-states w b states lw lb ls M lm o ho d t in
+        (λ i. between order (written (5 * r + 1) (omega arith) i) (written (5 * r + 2) (omega arith) i) k) ∙ between-states 14 hr
 
 natural-at : (k : ℕ) → k < 16 → at natural k ≡ k
 unfolding table
@@ -113,10 +109,10 @@ module _ (o : ℕ) (w b : List ℕ) (r k : ℕ) (hk : k < 15) where
     unfolding maskAt
     never-bare = rw mul-suc (lucky o (d * r) d k t hk)
 
-    pub even-first : (nr form : ℕ) → r < nr
-        → (betweenStates boxOrder (maskedRecord nr form published o d w b) r k ≡ betweenBare boxOrder w b r k ⊕ betweenMasks boxOrder published o d r k)
+    pub even-first : (nr : ℕ) → r < nr
+        → (betweenStates boxOrder (maskedRecord nr published o d w b) r k ≡ betweenBare boxOrder w b r k ⊕ betweenMasks boxOrder published o d r k)
         × (betweenMasks boxOrder published o d r k ≡ 0 → ⊥)
-    even-first nr form hr = (between-states boxOrder order-below published o d w b r k hk nr form hr, never-bare)
+    even-first nr hr = (between-states boxOrder order-below published o d w b r k hk nr hr, never-bare)
 
   -- In natural order, with step 1 and whatever the masks are, it is always 00.
   always-bare : (M : List ℕ) → betweenMasks natural M o 1 r k ≡ 0
@@ -124,10 +120,10 @@ module _ (o : ℕ) (w b : List ℕ) (r k : ℕ) (hk : k < 15) where
       on natural M o 1 r k (natural-below k (omega arith)) (natural-below (k + 1) (omega arith))
       (rw (natural-at k (omega arith), natural-at (k + 1) (omega arith)) (omega arith))
 
-  pub natural-bare : (nr form : ℕ) → r < nr → (M : List ℕ)
-      → (betweenStates natural (maskedRecord nr form M o 1 w b) r k ≡ betweenBare natural w b r k ⊕ betweenMasks natural M o 1 r k)
+  pub natural-bare : (nr : ℕ) → r < nr → (M : List ℕ)
+      → (betweenStates natural (maskedRecord nr M o 1 w b) r k ≡ betweenBare natural w b r k ⊕ betweenMasks natural M o 1 r k)
       × (betweenMasks natural M o 1 r k ≡ 0)
-  natural-bare nr form hr M = (between-states natural natural-below M o 1 w b r k hk nr form hr, always-bare M)
+  natural-bare nr hr M = (between-states natural natural-below M o 1 w b r k hk nr hr, always-bare M)
 
   -- both of what record_masked writes
   module _ (states : List ℕ) (lw : length w ≡ 240) (lb : length b ≡ 16) (ls : length states ≡ 1136) (ho : o ≤ 15) (hr : r < 14) where

@@ -8,7 +8,7 @@ use Rattle.aes.specs.Byte.{fromBits}
 use Rattle.aes.specs.Field.{_•_, times, xTimes, raise, inverse}
 use Rattle.aes.specs.Box.{affine, sBox}
 use Rattle.aes.specs.State.{at, state, shiftRows, mixColumns, addRoundKey, dot}
-use Rattle.masks.specs.Mask.{published, mask, maskedBox, compensation, ending}
+use Rattle.masks.specs.Mask.{published, mask, maskedBox, compensation, _⊞_}
 use Rattle.beside.specs.Inversion.{maskedInverse}
 
 -- a byte and its value, or a state and the bytes that it begins with
@@ -55,6 +55,6 @@ unfolding _•_ times xTimes raise inverse fromBits affine sBox shiftRows mixCol
 examples-hold = refl
 
 -- how the last constant that document 002 prints begins at offset 0
-pub printed-begins : take 4 (ending 1 (mask published 0 14)) ≡ four 0x00 0xc6 0x95 0xc6
-unfolding ending published mask shiftRows addRoundKey
+pub printed-begins : take 4 (mask published 0 14 ⊞ shiftRows (mask published 0 14)) ≡ four 0x00 0xc6 0x95 0xc6
+unfolding published mask shiftRows addRoundKey
 printed-begins = refl

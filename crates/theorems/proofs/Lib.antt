@@ -2,6 +2,7 @@ pub mod SubBytes
 pub mod RoundTrip
 pub mod PlainRecord
 pub mod CallLaws
+pub mod Converted
 pub mod Cover
 pub mod AnyMasks
 pub mod Relation

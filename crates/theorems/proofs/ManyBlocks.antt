@@ -1,4 +1,4 @@
--- Many blocks in one masked call: in form 0 each is the block that the rack makes, whatever its offset and the step are.
+-- Many blocks in one masked call: each is the block that the rack makes, whatever its offset and the step are.
 -- Assumes nothing.
 use mathlib.Core.Path.{_≡_, refl, ap}
 use mathlib.Core.Bool.{true, false}

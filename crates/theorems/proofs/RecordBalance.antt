@@ -31,7 +31,7 @@ record Label (d : ℕ) (p : Point) (i : ℕ) : Type 0 where
   label : ℕ
   same : (M : List ℕ) (o : ℕ) → at (maskAt M o d p) i ≡ at M ((o + label) % 16)
 
-own : (d : ℕ) (p : Point) (r i : ℕ) → i < 16 → ((K : ℕ → List ℕ) → maskBy 0 K p ≡ K r) → Label d p i
+own : (d : ℕ) (p : Point) (r i : ℕ) → i < 16 → ((K : ℕ → List ℕ) → maskBy K p ≡ K r) → Label d p i
 own d p r i h e =
     record { label = i + d * r; same = λ M o. rw (maskAt-is M o d p, e (stepping M o d), ← add-assoc) (mask-entry M o (d * r) i h) }
 
@@ -46,7 +46,7 @@ from-lt : (i : ℕ) → from i < 16
 unfolding from
 from-lt i = omega arith
 
-moved : (d : ℕ) (p : Point) (r i : ℕ) → i < 16 → ((K : ℕ → List ℕ) → maskBy 0 K p ≡ shiftRows (K r)) → Label d p i
+moved : (d : ℕ) (p : Point) (r i : ℕ) → i < 16 → ((K : ℕ → List ℕ) → maskBy K p ≡ shiftRows (K r)) → Label d p i
 moved d p r i h e =
     record {
       label = from i + d * r;

@@ -26,16 +26,16 @@ use Rattle.theorems.proofs.CallLaws.{cipher-size}
 use Rattle.theorems.proofs.Relation.{plain-at, relation-at, relation-cipher}
 use Rattle.theorems.proofs.Result.{is-true, add-none, zero-masks}
 
-covered-sized : (form : ℕ) (M : List ℕ) (o d : ℕ) (w : List ℕ) → Sized (covered form M o d w)
+covered-sized : (M : List ℕ) (o d : ℕ) (w : List ℕ) → Sized (covered M o d w)
 unfolding covered addRoundKey shiftRows mixColumns
-covered-sized form M o d w block s l = refl
-covered-sized form M o d w (keyed r) s l = refl
-covered-sized form M o d w (boxed r) s l = refl
-covered-sized form M o d w (shifted r) s l = refl
-covered-sized form M o d w (mixed r) s l = refl
-covered-sized form M o d w (compensated r) s l = refl
-covered-sized form M o d w (closed r) s l = refl
-covered-sized form M o d w (uncovered r) s l = refl
+covered-sized M o d w block s l = refl
+covered-sized M o d w (keyed r) s l = refl
+covered-sized M o d w (boxed r) s l = refl
+covered-sized M o d w (shifted r) s l = refl
+covered-sized M o d w (mixed r) s l = refl
+covered-sized M o d w (compensated r) s l = refl
+covered-sized M o d w (closed r) s l = refl
+covered-sized M o d w (uncovered r) s l = refl
 
 -- sixteen bytes a state, one behind the other
 state-in : (f : Point → List ℕ → List ℕ) → Sized f → (ps : List Point) (s : List ℕ) → length s ≡ 16
@@ -85,11 +85,11 @@ module _ (w b states : List ℕ) (lw : length w ≡ 240) (lb : length b ≡ 16) 
 
   module _ (M : List ℕ) (lm : length M ≡ 16) (o : ℕ) (ho : o ≤ 15) (d : ℕ) (t : T (taken d)) where
     -- and what record_masked writes is the masked record
-    pub masked-states : (q : ℕ) → q < 71 → blockAt q (recordMaskedOf w b M o d states .1) ≡ getD (maskedRecord 14 0 M o d w b) q []
+    pub masked-states : (q : ℕ) → q < 71 → blockAt q (recordMaskedOf w b M o d states .1) ≡ getD (maskedRecord 14 M o d w b) q []
     unfolding maskedRecord
     masked-states q hq =
         simp (eq-eqb (length w) 240 lw, eq-eqb (length b) 16 lb, eq-eqb (length M) 16 lm, le-leb o 15 ho, is-true (taken d) t, eq-eqb (length states) 1136 ls)
-        (state-in (covered 0 M o d w) (covered-sized 0 M o d w) (points 14) b lb q (rw seventy-one hq))
+        (state-in (covered M o d w) (covered-sized M o d w) (points 14) b lb q (rw seventy-one hq))
 
     -- so its state q is that of CIPHER under the mask that the mask table has there
     pub masked-state : (q : ℕ) → q < 71

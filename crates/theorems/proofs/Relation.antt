@@ -16,7 +16,7 @@ use Rattle.masks.specs.Mask.{_⊞_, label, mask, maskedBox, compensation}
 use Rattle.masked.specs.Run.{covered, maskedRecord}
 use Rattle.theorems.specs.MaskTable.{maskAt, summed}
 use Rattle.theorems.proofs.Cover.{at-summed, map-at}
-use Rattle.theorems.proofs.AnyMasks.{coveredBy, left, maskBy, relation-any}
+use Rattle.theorems.proofs.AnyMasks.{coveredBy, maskBy, relation-any}
 
 pub plain-at : (w b : List ℕ) (nr q : ℕ) → q < length (points nr) → getD (plainRecord nr w b) q [] ≡ cipherAt w b (getD (points nr) q block)
 plain-at w b nr q h = rw (record-is w b nr) (map-at (cipherAt w b) (points nr) q block h)
@@ -49,19 +49,19 @@ module _ (M : List ℕ) (o d : ℕ) where
       table-same (λ i. maskedBox M d (label o (d * r) i) (at s i)) (λ i. sBox (at s i ⊕ at (stepping M o d r) i) ⊕ at (stepping M o d (suc r)) i) 16
       (λ i h. label-at M o d r (at s i) i h)
 
-  covered-is : (form : ℕ) (w : List ℕ) (p : Point) (s : List ℕ) → covered form M o d w p s ≡ coveredBy form (stepping M o d) w p s
+  covered-is : (w : List ℕ) (p : Point) (s : List ℕ) → covered M o d w p s ≡ coveredBy (stepping M o d) w p s
   unfolding covered coveredBy compensation
-  covered-is form w block s = rw mul-zero
-  covered-is form w (keyed r) s = refl
-  covered-is form w (boxed r) s = boxes-are r s
-  covered-is form w (shifted r) s = refl
-  covered-is form w (mixed r) s = refl
-  covered-is form w (compensated r) s = refl
-  covered-is form w (closed r) s = refl
-  covered-is form w (uncovered r) s = refl
+  covered-is w block s = rw mul-zero
+  covered-is w (keyed r) s = refl
+  covered-is w (boxed r) s = boxes-are r s
+  covered-is w (shifted r) s = refl
+  covered-is w (mixed r) s = refl
+  covered-is w (compensated r) s = refl
+  covered-is w (closed r) s = refl
+  covered-is w (uncovered r) s = refl
 
-  pub maskAt-is : (p : Point) → maskAt M o d p ≡ maskBy 0 (stepping M o d) p
-  unfolding maskAt maskBy left
+  pub maskAt-is : (p : Point) → maskAt M o d p ≡ maskBy (stepping M o d) p
+  unfolding maskAt maskBy
   maskAt-is block = rw mul-zero
   maskAt-is (keyed r) = refl
   maskAt-is (boxed r) = refl
@@ -71,31 +71,21 @@ module _ (M : List ℕ) (o d : ℕ) where
   maskAt-is (closed r) = refl
   maskAt-is (uncovered r) = refl
 
-  -- in either form
-  pub relation-form : (form : ℕ) (w : List ℕ) (nr : ℕ) (b : List ℕ)
-      → maskedRecord nr form M o d w b ≡ summed (plainRecord nr w b) (map (maskBy form (stepping M o d)) (points nr))
-  unfolding maskedRecord
-  relation-form form w nr b =
-      ap (λ (f : Point → List ℕ → List ℕ). run f b (points nr)) (fun-ext (λ p. fun-ext (λ s. covered-is form w p s)))
-      ∙ relation-any form (stepping M o d) w nr b
-
   module _ (w : List ℕ) (nr : ℕ) (b : List ℕ) where
     -- the states of a masked run are those of the plain run, each under the mask of its point
-    pub relation : maskedRecord nr 0 M o d w b ≡ summed (plainRecord nr w b) (map (maskAt M o d) (points nr))
+    pub relation : maskedRecord nr M o d w b ≡ summed (plainRecord nr w b) (map (maskAt M o d) (points nr))
+    unfolding maskedRecord
     relation =
-        relation-form 0 w nr b
+        ap (λ (f : Point → List ℕ → List ℕ). run f b (points nr)) (fun-ext (λ p. fun-ext (λ s. covered-is w p s)))
+        ∙ relation-any (stepping M o d) w nr b
         ∙ ap (λ (f : Point → List ℕ). summed (plainRecord nr w b) (map f (points nr))) (fun-ext (λ p. sym (maskAt-is p)))
 
-    -- so state q is plain state q under the mask of point q, in either form; and that of CIPHER
-    pub relation-form-at : (form q : ℕ) → q < length (points nr)
-        → getD (maskedRecord nr form M o d w b) q [] ≡ getD (plainRecord nr w b) q [] ⊞ maskBy form (stepping M o d) (getD (points nr) q block)
-    unfolding plainRecord
-    relation-form-at form q h = rw (relation-form form w nr b) (at-summed (plain w) (maskBy form (stepping M o d)) block (points nr) b q h)
-
+    -- so state q is plain state q under the mask of point q; and that of CIPHER
     pub relation-at : (q : ℕ) → q < length (points nr)
-        → getD (maskedRecord nr 0 M o d w b) q [] ≡ getD (plainRecord nr w b) q [] ⊞ maskAt M o d (getD (points nr) q block)
-    relation-at q h = relation-form-at 0 q h ∙ rw (maskAt-is (getD (points nr) q block))
+        → getD (maskedRecord nr M o d w b) q [] ≡ getD (plainRecord nr w b) q [] ⊞ maskAt M o d (getD (points nr) q block)
+    unfolding plainRecord
+    relation-at q h = rw relation (at-summed (plain w) (maskAt M o d) block (points nr) b q h)
 
     pub relation-cipher : (q : ℕ) → q < length (points nr)
-        → getD (maskedRecord nr 0 M o d w b) q [] ≡ cipherAt w b (getD (points nr) q block) ⊞ maskAt M o d (getD (points nr) q block)
+        → getD (maskedRecord nr M o d w b) q [] ≡ cipherAt w b (getD (points nr) q block) ⊞ maskAt M o d (getD (points nr) q block)
     relation-cipher q h = relation-at q h ∙ rw (plain-at w b nr q h)

@@ -28,48 +28,38 @@ use Rattle.masked.specs.Calls.{encryptMaskedOf, encryptPublishedOf}
 use Rattle.theorems.proofs.CallLaws.{cipher-size}
 use Rattle.theorems.proofs.PlainRecord.{record-last}
 use Rattle.theorems.proofs.Cover.{last-summed}
-use Rattle.theorems.proofs.AnyMasks.{left, maskBy}
-use Rattle.theorems.proofs.Relation.{stepping, relation-form, relation}
+use Rattle.theorems.proofs.Relation.{relation}
 
 -- what holds is true
 pub is-true : (b : Bool) → T b → b ≡ true
 is-true true t = refl
 is-true false t = absurd t
 
--- the mask that the form leaves
-last-mask : (form : ℕ) (K : ℕ → List ℕ) (n : ℕ) (m : List ℕ) → last m (map (maskBy form K) (points (suc n))) ≡ left form (K (suc n))
-unfolding points last maskBy
-last-mask form K n m =
+-- no mask lies on the finished block
+last-mask : (M : List ℕ) (o d n : ℕ) (m : List ℕ) → last m (map (maskAt M o d) (points (suc n))) ≡ bare
+unfolding points last maskAt
+last-mask M o d n m =
     let e : suc n - 1 ≡ n = omega arith in
-    rw (e, map-append (maskBy form K) (block ∷ wholes n) (final n), last-append)
+    rw (e, map-append (maskAt M o d) (block ∷ wholes n) (final n), last-append)
 
-last-state : (form : ℕ) (K : ℕ → List ℕ) (w : List ℕ) (nr : ℕ) (b : List ℕ)
-    → last b (summed (plainRecord nr w b) (map (maskBy form K) (points nr))) ≡ last b (plainRecord nr w b) ⊞ last b (map (maskBy form K) (points nr))
-unfolding points run summed last plain plainRecord maskBy
-last-state form K w nr b = last-summed (plain w) (maskBy form K) (wholes (nr - 1) ++ final (nr - 1)) (K 0) b
+last-state : (M : List ℕ) (o d : ℕ) (w : List ℕ) (nr : ℕ) (b : List ℕ)
+    → last b (summed (plainRecord nr w b) (map (maskAt M o d) (points nr))) ≡ last b (plainRecord nr w b) ⊞ last b (map (maskAt M o d) (points nr))
+unfolding points run summed last plain plainRecord maskAt
+last-state M o d w nr b = last-summed (plain w) (maskAt M o d) (wholes (nr - 1) ++ final (nr - 1)) (mask M o 0) b
 
 -- nothing is left by no mask
 pub add-none : (s : List ℕ) → length s ≡ 16 → s ⊞ bare ≡ s
 unfolding addRoundKey
 add-none s l = simp xor-zero (state-at s l)
 
-module _ (M : List ℕ) (o d : ℕ) (w : List ℕ) (n : ℕ) (b : List ℕ) where
-  masked-last : (form : ℕ) → maskedCipher (suc n) form M o d w b ≡ cipher (suc n) w b ⊞ left form (mask M o (d * suc n))
-  unfolding maskedCipher
-  masked-last form =
-      rw (relation-form M o d form w (suc n) b, last-state form (stepping M o d) w (suc n) b, record-last w b n, last-mask form (stepping M o d) n b)
-
-  -- form 0 ends in the ciphertext, form 1 in the ciphertext under the last mask
-  pub masked-cipher : maskedCipher (suc n) 0 M o d w b ≡ cipher (suc n) w b
-  unfolding left
-  masked-cipher = masked-last 0 ∙ add-none (cipher (suc n) w b) (cipher-size (suc n) w b)
-
-  pub masked-printed : (form : ℕ) → maskedCipher (suc n) (suc form) M o d w b ≡ cipher (suc n) w b ⊞ mask M o (d * suc n)
-  unfolding left
-  masked-printed form = masked-last (suc form)
+pub masked-cipher : (M : List ℕ) (o d : ℕ) (w : List ℕ) (n : ℕ) (b : List ℕ) → maskedCipher (suc n) M o d w b ≡ cipher (suc n) w b
+unfolding maskedCipher
+masked-cipher M o d w n b =
+    rw (relation M o d w (suc n) b, last-state M o d w (suc n) b, record-last w b n, last-mask M o d n b)
+    (add-none (cipher (suc n) w b) (cipher-size (suc n) w b))
 
 pub offset-free : (M M′ : List ℕ) (o o′ d d′ : ℕ) (w : List ℕ) (n : ℕ) (b : List ℕ)
-    → maskedCipher (suc n) 0 M o d w b ≡ maskedCipher (suc n) 0 M′ o′ d′ w b
+    → maskedCipher (suc n) M o d w b ≡ maskedCipher (suc n) M′ o′ d′ w b
 offset-free M M′ o o′ d d′ w n b = masked-cipher M o d w n b ∙ sym (masked-cipher M′ o′ d′ w n b)
 
 -- sixteen masks that are all zero: the masked states are the plain ones
@@ -108,24 +98,13 @@ summed-bare o d w (p ∷ ps) s l =
     let h : length (plain w p s) ≡ 16 = plain-sized w p s l in
     rw (maskAt-bare o d p, add-none (plain w p s) h) (ap (λ (u : List (List ℕ)). plain w p s ∷ u) (summed-bare o d w ps (plain w p s) h))
 
-pub zero-masks : (o d : ℕ) (w : List ℕ) (nr : ℕ) (b : List ℕ) → length b ≡ 16 → maskedRecord nr 0 bare o d w b ≡ plainRecord nr w b
+pub zero-masks : (o d : ℕ) (w : List ℕ) (nr : ℕ) (b : List ℕ) → length b ≡ 16 → maskedRecord nr bare o d w b ≡ plainRecord nr w b
 unfolding plainRecord
 zero-masks o d w nr b l = relation bare o d w nr b ∙ summed-bare o d w (points nr) b l
 
--- At the calls: whatever the masks, the offset and the step are, form 0 writes what the plain call writes.
+-- At the calls: whatever the masks, the offset and the step are, they write what the plain call writes.
 pub encrypt-masked-is : (w b out M : List ℕ) (o d : ℕ) → length M ≡ 16 → o ≤ 15 → T (taken d) → encryptMaskedOf w b out M o d 0 ≡ encryptOf w b out
 encrypt-masked-is w b out M o d lm lo t = simp (eq-eqb (length M) 16 lm, le-leb o 15 lo, is-true (taken d) t, masked-cipher M o d w 13 b)
 
 pub encrypt-published-is : (w b out : List ℕ) (o d : ℕ) → o ≤ 15 → T (taken d) → encryptPublishedOf w b out o d 0 ≡ encryptOf w b out
 encrypt-published-is w b out o d lo t = simp (le-leb o 15 lo, is-true (taken d) t, masked-cipher published o d w 13 b)
-
-pub encrypt-masked-printed : (w b out M : List ℕ) (o d : ℕ)
-    → length w ≡ 240 → length b ≡ 16 → length out ≡ 16 → length M ≡ 16 → o ≤ 15 → T (taken d)
-    → encryptMaskedOf w b out M o d 1 ≡ (0, cipher 14 w b ⊞ mask M o (d * 14))
-encrypt-masked-printed w b out M o d lw lb lout lm lo t =
-    simp (eq-eqb (length w) 240 lw, eq-eqb (length b) 16 lb, eq-eqb (length out) 16 lout, eq-eqb (length M) 16 lm, le-leb o 15 lo, is-true (taken d) t, masked-printed M o d w 13 b 0)
-
-pub encrypt-published-printed : (w b out : List ℕ) (o d : ℕ) → length w ≡ 240 → length b ≡ 16 → length out ≡ 16 → o ≤ 15 → T (taken d)
-    → encryptPublishedOf w b out o d 1 ≡ (0, cipher 14 w b ⊞ mask published o (d * 14))
-encrypt-published-printed w b out o d lw lb lout lo t =
-    simp (eq-eqb (length w) 240 lw, eq-eqb (length b) 16 lb, eq-eqb (length out) 16 lout, le-leb o 15 lo, is-true (taken d) t, masked-printed published o d w 13 b 0)

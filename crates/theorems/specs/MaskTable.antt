@@ -10,7 +10,7 @@ use Rattle.masks.specs.Mask.{_⊞_, mask}
 abbrev pub bare : List ℕ
 bare = state (λ i. 0)
 
--- the mask that lies on the state at each point of a run in form 0, whose labels advance by d from round to round
+-- the mask that lies on the state at each point of a run, whose labels advance by d from round to round
 unfoldable pub maskAt : List ℕ → ℕ → ℕ → Point → List ℕ
 maskAt M o d block = mask M o 0
 maskAt M o d (keyed r) = mask M o (d * r)

@@ -1,7 +1,9 @@
-// Runs the vectors of standard input on the plain engine, and prints how many of each source were run and how many differ.
+// Runs the vectors of standard input on the plain engine, and on the converter, which makes its blocks of stored ones, and prints
+// how many of each source were run and how many differ.
 mod c3;
 mod calls;
 mod sources;
+mod stored;
 mod table;
 
 use lines::counts::CELLS;

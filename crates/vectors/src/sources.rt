@@ -3,8 +3,10 @@ use crate::c3;
 use crate::calls::Call;
 use crate::calls::expands;
 use crate::calls::leads;
+use crate::stored::converted;
 use crate::table;
 use lines::counts::CELLS;
+use lines::counts::add;
 use lines::counts::count;
 use lines::text::is_header;
 use lines::text::part;
@@ -74,10 +76,11 @@ fn blocks(line: &[u8], kind: Kind, counts: &mut [u64; CELLS]) -> bool {
     v.read
 }
 
-// Both ways.
+// Both ways, and as early modules stored it.
 fn ecb(v: Vector, counts: &mut [u64; CELLS]) {
     count(counts, table::ECB_ENCRYPTED, leads(Call::Encrypt, 1, v));
     count(counts, table::ECB_DECRYPTED, leads(Call::Decrypt, 1, v));
+    add(counts, table::CONVERTED, converted(v));
 }
 
 // A key and its schedule.

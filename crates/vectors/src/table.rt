@@ -14,6 +14,8 @@ pub const CHAINS_ENCRYPTED: usize = 4;
 
 pub const CHAINS_DECRYPTED: usize = 5;
 
+pub const CONVERTED: usize = 6;
+
 pub fn print(counts: &[u64; CELLS]) {
     let mut table = *b"\
 AES-256 vectors, plain engine                  run   differ
@@ -23,6 +25,7 @@ AES-256 vectors, plain engine                  run   differ
   FIPS 197 C.3 states                            0        0
   Monte Carlo chains, encrypted                  0        0
   Monte Carlo chains, decrypted                  0        0
+  NIST ECB, converted from form 1                0        0
   all                                            0        0
 lines that could not be read                     0
 ";

@@ -1,4 +1,4 @@
-// What is checked last of a caller's choices: the step, and the form in which a run ends.
+// What is checked last of a caller's choices: the step, and the form, of which one is left.
 ghost use mathlib.Core.Path.{_≡_};
 ghost use mathlib.Core.List.{[], _∷_};
 ghost use Rattle.aes.specs.Reply.{isStep, isForm, refusal};
@@ -12,7 +12,7 @@ pub(super) fn refusal(step: u8, form: u8) -> u8
     if !taken(step) {
         return reply::STEP_WRONG;
     }
-    if 1 < form {
+    if form != 0 {
         return reply::FORM_UNKNOWN;
     }
     reply::DONE

@@ -37,7 +37,6 @@ pub fn encrypt_published(
         &boxes,
         &compensations,
         offset,
-        form,
         output,
     );
     reply::DONE
@@ -71,7 +70,6 @@ pub fn encrypt_masked(
         &boxes,
         &compensations,
         offset,
-        form,
         output,
     );
     reply::DONE

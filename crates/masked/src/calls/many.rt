@@ -32,14 +32,14 @@ pub fn encrypt_blocks(
     if refusal != reply::DONE {
         return refusal;
     }
-    in_turn(schedule, input, output, offsets, step, form);
+    in_turn(schedule, input, output, offsets, step);
     reply::DONE
 }
 
 // One block after the other, to its place in the output.
-fn in_turn(schedule: &[u8], input: &[u8], output: &mut [u8], offsets: &[u8], step: u8, form: u8)
+fn in_turn(schedule: &[u8], input: &[u8], output: &mut [u8], offsets: &[u8], step: u8)
     requires { ⌜ (length (now schedule) ≡ 240) × (length (now input) ≡ 16 * length (now offsets)) × (length (now output) ≡ 16 * length (now offsets)) ⌝ }
-    ensures { λ _. ⌜ now (output .exit) ≡ inRow (inTurn (now (schedule .entry)) (now (input .entry)) (now (offsets .entry)) step form) (length (now (offsets .entry))) ⌝ }
+    ensures { λ _. ⌜ now (output .exit) ≡ inRow (inTurn (now (schedule .entry)) (now (input .entry)) (now (offsets .entry)) step) (length (now (offsets .entry))) ⌝ }
 {
     let masks = Masks::published(step);
     let mut boxes = store::boxes();
@@ -56,7 +56,6 @@ fn in_turn(schedule: &[u8], input: &[u8], output: &mut [u8], offsets: &[u8], ste
             &boxes,
             &compensations,
             offset(offsets, k),
-            form,
             &mut output[a..e],
         );
         k += 1;

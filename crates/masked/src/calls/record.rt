@@ -7,7 +7,7 @@ use super::lent::Masks;
 use crate::run::recorded;
 use aes::reply;
 
-// Writes the 71 states of a masked run in form 0.
+// Writes the 71 states of a masked run.
 pub fn record_masked(
     schedule: &[u8],
     input: &[u8],

@@ -7,7 +7,7 @@ ghost use lib.Dec.{eqb};
 ghost use lib.ListN.{length};
 ghost use Rattle.aes.specs.State.{shiftRows, mixColumns};
 ghost use Rattle.aes.specs.Key.{roundKey};
-ghost use Rattle.masks.specs.Mask.{_⊞_, twice, mask, maskedBoxes, allCompensations, ending};
+ghost use Rattle.masks.specs.Mask.{_⊞_, twice, mask, maskedBoxes, allCompensations};
 ghost use Rattle.masks.specs.Order.{boxedBy};
 ghost use Rattle.masked.specs.Lent.{sixteen};
 use crate::blocks::keep;
@@ -17,7 +17,6 @@ use crate::calls::lent::Masks;
 use crate::round::Round;
 use aes::add;
 use masks::answers::answers;
-use masks::constants::ending;
 use masks::label::Label;
 
 // A state as it is covered, with the label of its masks and its round: how often boxes have answered it. This file alone reads and
@@ -112,10 +111,10 @@ pub(crate) fn compensate(
 }
 
 // After the last round alone.
-pub(crate) fn uncover(s: Covered, masks: Masks, form: u8, part: &mut [u8])
+pub(crate) fn uncover(s: Covered, masks: Masks, part: &mut [u8])
     requires { ⌜ (s .label .0 < 16) × (s .round .0 ≡ 14) × (length (now part) ≡ 16) × (masks .2 ≡ twice (masks .0)) ⌝ }
-    ensures { λ _. ⌜ now (part .exit) ≡ s .bytes ⊞ ending form (mask (masks .0) 0 (s .label .0)) ⌝ }
+    ensures { λ _. ⌜ now (part .exit) ≡ s .bytes ⊞ shiftRows (mask (masks .0) 0 (s .label .0)) ⌝ }
 {
     let b = s.bytes;
-    keep(add(b, ending(form, masks.mask(s.label))), part);
+    keep(add(b, aes::shift_rows(masks.mask(s.label))), part);
 }

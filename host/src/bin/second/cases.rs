@@ -27,7 +27,7 @@ pub fn draw(random: &mut Random, boxes: &Boxes, order: &[Cause], broken: &[Cause
     let [key, schedule, input, output, masks, states, sheet, blank, offsets] =
         [key, schedule, input, output, masks, states, sheet, blank, offsets].map(|body| Buffer::new(random, &body));
     let offset = if wants(Cause::Offset) { 16 + random.below(240) } else { random.below(16) } as u8;
-    let form = if wants(Cause::Form) { 2 + random.below(254) } else { random.below(2) } as u8;
+    let form = form(random, wants(Cause::Form));
     Lent { key, schedule, input, output, masks, states, sheet, blank, offsets, offset, step, form }
 }
 
@@ -98,6 +98,15 @@ fn step(random: &mut Random, wrong: bool) -> u8 {
         (true, n) => [0, 2, 3, 16 + random.below(240) as u8][n],
         (false, 0) => 1,
         (false, _) => 4 + random.below(12) as u8,
+    }
+}
+
+/// 0; wrong, often 1, which was taken once.
+fn form(random: &mut Random, wrong: bool) -> u8 {
+    match (wrong, random.below(2)) {
+        (true, 0) => 1,
+        (true, _) => 2 + random.below(254) as u8,
+        (false, _) => 0,
     }
 }
 

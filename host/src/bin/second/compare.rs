@@ -52,6 +52,19 @@ pub fn compare(trial: &mut Trial, random: &mut Random, cases: usize) {
     }
 }
 
+/// Every form, for a call that has one; and whether it has.
+pub fn compare_forms(trial: &mut Trial, random: &mut Random) -> bool {
+    let refusals = trial.call.refusals;
+    if !refusals.contains(&Cause::Form) {
+        return false;
+    }
+    for form in 0..=255 {
+        let lent = draw(random, trial.boxes, refusals, &[]);
+        trial.case(random, Lent { form, ..lent });
+    }
+    true
+}
+
 /// Which refusals a case is to meet: first every set of them, and later one case in eight meets any set.
 fn broken(call: &Call, random: &mut Random, case: usize) -> Vec<Cause> {
     let sets = 1 << call.refusals.len();

@@ -2,6 +2,7 @@
 
 mod sheets;
 mod steps;
+mod stored;
 
 use crate::masked::PUBLISHED;
 use crate::report::Tally;
@@ -29,6 +30,8 @@ pub fn compare(spoiled: bool) -> Tally {
         sheets::written(),
         zero_masks(),
         fitness(),
+        stored::refused(),
+        stored::converted(),
         box_order(),
     ];
     for edge in edges.into_iter().flatten() {
@@ -68,7 +71,7 @@ fn huge() -> Vec<Edge> {
 fn offsets_and_forms() -> Vec<Edge> {
     let (w, block, masks) = ([0; 240], [0; 16], [0; 16]);
     let mut edges = Vec::new();
-    for (offset, form, expected) in [(15, 0, 0), (16, 0, 6), (0, 1, 0), (0, 2, 7)] {
+    for (offset, form, expected) in [(15, 0, 0), (16, 0, 6), (0, 1, 7), (0, 2, 7), (0, 255, 7), (16, 1, 6)] {
         let published = calls::encrypt_published(&w, &block, &mut [0; 16], offset, 1, form);
         edges.push(edge(format!("reply to offset {offset}, form {form}, published masks"), published, expected));
         let masked = calls::encrypt_masked(&w, &block, &mut [0; 16], &masks, offset, 1, form);
@@ -97,7 +100,7 @@ fn many_blocks() -> Vec<Edge> {
         edge("reply to no blocks and room for one", called(0, 16, &[], 0), 4),
         edge("reply to no blocks and an offset", called(0, 0, &[0], 0), 14),
         edge("reply to 256 blocks and 255 offsets", called(4096, 4096, &last[..255], 0), 14),
-        edge("reply to no blocks in form 2", called(0, 0, &[], 2), 7),
+        edge("reply to no blocks in form 1", called(0, 0, &[], 1), 7),
         edge("reply to no blocks and a short schedule", calls::encrypt_blocks(&w[1..], &[], &mut [], &[], 1, 0), 2),
         edge("reply to 256 blocks, the last offset 16", calls::encrypt_blocks(&w, &[0; 4096], &mut kept, &last, 1, 0), 6),
         edge("bytes that are written then", difference(&kept, &[1; 4096]), 0),

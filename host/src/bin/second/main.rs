@@ -1,6 +1,6 @@
 //! The independent second program: `second SEED CASES [SPOILED]` compares every public call of the library with an
-//! implementation of its own, on so many cases drawn from the seed, on every step where there is one, and on all inputs of the
-//! calls that take bytes alone.
+//! implementation of its own, on so many cases drawn from the seed, on every step and every form where there is one, and on all
+//! inputs of the calls that take bytes alone.
 //!
 //! It prints for each call how many cases were compared and how many differ, and fails where any does. SPOILED names a call, or
 //! `edges`: what is expected of it is then changed, so that each of its cases must differ.
@@ -25,7 +25,7 @@ mod table;
 
 use crate::bytes::BYTE_CALLS;
 use crate::cipher::Boxes;
-use crate::compare::{compare, Trial};
+use crate::compare::{compare, compare_forms, Trial};
 use crate::random::Random;
 use crate::report::{Report, Tally};
 use crate::table::CALLS;
@@ -52,11 +52,14 @@ fn all(seed: u64, cases: usize, spoiled: &str) -> bool {
     let mut report = Report::start();
     for call in CALLS {
         let trial = || Trial { call, boxes: &boxes, spoiled: call.name == spoiled, tally: Tally::default() };
-        let (mut drawn, mut every_step) = (trial(), trial());
+        let (mut drawn, mut every_step, mut every_form) = (trial(), trial(), trial());
         compare(&mut drawn, &mut random, cases);
         report.row(call.name, call.method, drawn.tally);
         if steps::compare(&mut every_step, &mut random) {
             report.row(call.name, "the same at every step", every_step.tally);
+        }
+        if compare_forms(&mut every_form, &mut random) {
+            report.row(call.name, "the same in every form", every_form.tally);
         }
     }
     for call in BYTE_CALLS {

@@ -11,7 +11,6 @@ pub struct Masking {
     pub masks: [u8; 16],
     pub offset: usize,
     pub step: usize,
-    pub form: u8,
 }
 
 impl Masking {
@@ -20,7 +19,7 @@ impl Masking {
     }
 
     /// The mask after so many rounds, Mask(offset + step * rounds).
-    fn mask(&self, rounds: usize) -> State {
+    pub fn mask(&self, rounds: usize) -> State {
         from_fn(|i| self.mask_byte(self.offset + self.step * rounds + i))
     }
 
@@ -38,15 +37,6 @@ impl Masking {
         })
     }
 
-    /// What is xored last: form 1 has the constant that document 002 prints.
-    fn last_constant(&self) -> State {
-        let mask = self.mask(14);
-        match self.form {
-            0 => shift_rows(&mask),
-            _ => add(&mask, &shift_rows(&mask)),
-        }
-    }
-
     /// The 71 states of the masked run, each made from the one before.
     pub fn run(&self, boxes: &Boxes, schedule: &[u8], block: &State) -> Vec<State> {
         let mut s = add(block, &self.mask(0));
@@ -56,7 +46,7 @@ impl Masking {
             let boxed = self.boxes(boxes, &keyed, round);
             let shifted = shift_rows(&boxed);
             let (next, constant) = match round {
-                13 => (add_round_key(&shifted, schedule, 14), self.last_constant()),
+                13 => (add_round_key(&shifted, schedule, 14), shift_rows(&self.mask(14))),
                 _ => (mix_columns(&shifted), self.compensation(1 + round)),
             };
             s = add(&next, &constant);
@@ -65,7 +55,7 @@ impl Masking {
         states
     }
 
-    /// The mask that lies at each of the 71 points in form 0, row by row as the scope's table has them.
+    /// The mask that lies at each of the 71 points, row by row as the scope's table has them.
     pub fn masks_at_points(&self) -> Vec<State> {
         let mut masks = vec![self.mask(0)];
         for round in 0..=12 {
@@ -77,13 +67,5 @@ impl Masking {
         let shifted = shift_rows(&after);
         masks.extend([self.mask(13), after, shifted, shifted, [0; 16]]);
         masks
-    }
-
-    /// What covers the finished block: nothing in form 0, Mask(offset + 14 * step) in form 1.
-    pub fn cover_of_result(&self) -> State {
-        match self.form {
-            0 => [0; 16],
-            _ => self.mask(14),
-        }
     }
 }

@@ -85,7 +85,7 @@ impl Cause {
             Cause::AnyOffset => offsets.iter().any(|&offset| offset > 15),
             Cause::OffsetCount => offsets.len() != input.len() / 16,
             Cause::Step => !takes_step(lent.step),
-            Cause::Form => lent.form > 1,
+            Cause::Form => lent.form != 0,
             Cause::States => lent.states.lent().len() != 1136,
             Cause::SheetHead => sheet.len() < 5,
             Cause::Mark => !sheet.starts_with(b"MSK"),

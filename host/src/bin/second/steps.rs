@@ -22,15 +22,15 @@ pub fn compare(trial: &mut Trial, random: &mut Random) -> bool {
     true
 }
 
-/// Each step by itself and together with each other cause of a refusal, and where it is taken, at every offset and in both forms.
+/// Each step by itself and together with each other cause of a refusal, and where it is taken, at every offset.
 fn runs(trial: &mut Trial, random: &mut Random) {
     let refusals = trial.call.refusals;
     for step in 0..=255 {
         let offsets = if takes_step(step) { 0..16 } else { 7..8 };
-        for (offset, form) in offsets.flat_map(|offset| [(offset, 0), (offset, 1)]) {
+        for offset in offsets {
             let mut lent = draw(random, trial.boxes, refusals, &[]);
             lent.offsets.lent_mut().fill(offset);
-            trial.case(random, Lent { offset, step, form, ..lent });
+            trial.case(random, Lent { offset, step, ..lent });
         }
         for &cause in refusals.iter().filter(|cause| **cause != Cause::Step) {
             let lent = draw(random, trial.boxes, refusals, &[cause]);

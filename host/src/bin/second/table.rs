@@ -24,25 +24,26 @@ fn write(target: &mut Buffer, bytes: &[u8]) -> u8 {
 }
 
 fn published(lent: &Lent) -> Masking {
-    Masking { masks: PUBLISHED, offset: lent.offset.into(), step: lent.step.into(), form: lent.form }
+    Masking { masks: PUBLISHED, offset: lent.offset.into(), step: lent.step.into() }
 }
 
 fn any_masks(lent: &Lent) -> Masking {
     Masking { masks: lent.masks.sixteen(), ..published(lent) }
 }
 
-/// The recorded run is form 0, whatever form was drawn.
-fn form_0(lent: &Lent) -> Masking {
-    Masking { form: 0, ..any_masks(lent) }
-}
-
 fn run(boxes: &Boxes, lent: &Lent, masking: &Masking) -> Vec<State> {
     masking.run(boxes, lent.schedule.lent(), &lent.input.sixteen())
 }
 
-/// The block that a masked run ends with, as the relation to the plain cipher has it.
-fn covered_cipher(boxes: &Boxes, lent: &Lent, masking: &Masking) -> State {
-    add(&encrypt(boxes, lent.schedule.lent(), &lent.input.sixteen()), &masking.cover_of_result())
+/// The block that any run ends with.
+fn ciphertext(boxes: &Boxes, lent: &mut Lent) -> u8 {
+    let block = encrypt(boxes, lent.schedule.lent(), &lent.input.sixteen());
+    write(&mut lent.output, &block)
+}
+
+/// What early modules left on the finished block: Mask(offset + 14), of the published masks at step 1.
+fn left_on(lent: &Lent) -> State {
+    Masking { step: 1, ..published(lent) }.mask(14)
 }
 
 fn covered_record(boxes: &Boxes, lent: &Lent, masking: &Masking) -> Vec<State> {
@@ -75,6 +76,27 @@ fn library_recorded(l: &mut Lent) -> Answer {
     number(calls::record_masked(l.schedule.lent(), l.input.lent(), masks, l.offset, l.step, l.states.lent_mut()))
 }
 
+/// Refused, it stops at the first call.
+fn library_converted_twice(l: &mut Lent) -> Answer {
+    let mut once = l.output.lent().to_vec();
+    match calls::convert(l.input.lent(), &mut once, l.offset) {
+        0 => number(calls::convert(&once, l.output.lent_mut(), l.offset)),
+        refusal => number(refusal),
+    }
+}
+
+/// What encrypt writes, covered here as early modules stored it. Encrypt judges all but the offset.
+fn library_converted_from_stored(l: &mut Lent) -> Answer {
+    let mut stored = l.output.lent().to_vec();
+    match calls::encrypt(l.schedule.lent(), l.input.lent(), &mut stored) {
+        0 => {
+            stored.iter_mut().zip(left_on(l)).for_each(|(byte, mask)| *byte ^= mask);
+            number(calls::convert(&stored, l.output.lent_mut(), l.offset))
+        }
+        refusal => number(refusal),
+    }
+}
+
 pub const CALLS: &[Call] = &[
     Call {
         name: "expand_key",
@@ -88,7 +110,7 @@ pub const CALLS: &[Call] = &[
         method: "CIPHER",
         refusals: &[Schedule, Input, Output],
         library: |l| number(calls::encrypt(l.schedule.lent(), l.input.lent(), l.output.lent_mut())),
-        reference: |b, l| write(&mut l.output, &encrypt(b, l.schedule.lent(), &l.input.sixteen())),
+        reference: ciphertext,
     },
     Call {
         name: "decrypt",
@@ -119,13 +141,10 @@ pub const CALLS: &[Call] = &[
     },
     Call {
         name: "encrypt_published",
-        method: "covered CIPHER",
+        method: "CIPHER",
         refusals: &[Schedule, Input, Output, Offset, Step, Form],
         library: library_published,
-        reference: |b, l| {
-            let block = covered_cipher(b, l, &published(l));
-            write(&mut l.output, &block)
-        },
+        reference: ciphertext,
     },
     Call {
         name: "encrypt_blocks",
@@ -139,11 +158,11 @@ pub const CALLS: &[Call] = &[
     },
     Call {
         name: "encrypt_blocks",
-        method: "covered CIPHER of each block",
+        method: "CIPHER of each block",
         refusals: &[Schedule, Blocks, Room, OffsetCount, AnyOffset, Step, Form],
         library: library_many,
         reference: |b, l| {
-            let blocks = each(l, |masking, block| add(&encrypt(b, l.schedule.lent(), block), &masking.cover_of_result()));
+            let blocks = each(l, |_, block| encrypt(b, l.schedule.lent(), block));
             write(&mut l.output, &blocks)
         },
     },
@@ -159,13 +178,10 @@ pub const CALLS: &[Call] = &[
     },
     Call {
         name: "encrypt_masked",
-        method: "covered CIPHER",
+        method: "CIPHER",
         refusals: &[Schedule, Input, Output, Masks, Offset, Step, Form],
         library: library_masked,
-        reference: |b, l| {
-            let block = covered_cipher(b, l, &any_masks(l));
-            write(&mut l.output, &block)
-        },
+        reference: ciphertext,
     },
     Call {
         name: "record_masked",
@@ -173,7 +189,7 @@ pub const CALLS: &[Call] = &[
         refusals: &[Schedule, Input, Masks, Offset, Step, States],
         library: library_recorded,
         reference: |b, l| {
-            let states = run(b, l, &form_0(l));
+            let states = run(b, l, &any_masks(l));
             write(&mut l.states, &states.concat())
         },
     },
@@ -183,7 +199,7 @@ pub const CALLS: &[Call] = &[
         refusals: &[Schedule, Input, Masks, Offset, Step, States],
         library: library_recorded,
         reference: |b, l| {
-            let states = covered_record(b, l, &form_0(l));
+            let states = covered_record(b, l, &any_masks(l));
             write(&mut l.states, &states.concat())
         },
     },
@@ -210,5 +226,29 @@ pub const CALLS: &[Call] = &[
         refusals: &[Masks],
         library: |l| packed(calls::fitness(l.masks.lent())),
         reference: |_, l| sheet::fitness(l.masks.lent()),
+    },
+    Call {
+        name: "convert",
+        method: "xor of Mask(o+14)",
+        refusals: &[Input, Output, Offset],
+        library: |l| number(calls::convert(l.input.lent(), l.output.lent_mut(), l.offset)),
+        reference: |_, l| {
+            let block = add(&l.input.sixteen(), &left_on(l));
+            write(&mut l.output, &block)
+        },
+    },
+    Call {
+        name: "convert",
+        method: "its input, converted twice",
+        refusals: &[Input, Output, Offset],
+        library: library_converted_twice,
+        reference: |_, l| write(&mut l.output, l.input.lent()),
+    },
+    Call {
+        name: "convert",
+        method: "CIPHER, stored in form 1",
+        refusals: &[Schedule, Input, Output, Offset],
+        library: library_converted_from_stored,
+        reference: ciphertext,
     },
 ];

@@ -37,7 +37,6 @@ pub struct Masking {
     pub masks: Option<Given>,
     pub offset: Number,
     pub step: Option<Number>,
-    pub form: Option<Number>,
 }
 
 /// Says of a refusal which of the words it is about.
@@ -48,7 +47,6 @@ pub fn explained(refusal: Refusal, keyed: &Keyed, block: &Given, masking: Option
         (Refusal::MasksLength, Some(Masking { masks: Some(masks), .. })) => masks.refused(refusal),
         (Refusal::OffsetRange, Some(masking)) => masking.offset.refused(refusal),
         (Refusal::StepWrong, Some(Masking { step: Some(step), .. })) => step.refused(refusal),
-        (Refusal::FormUnknown, Some(Masking { form: Some(form), .. })) => form.refused(refusal),
         _ => Fault::refused(refusal, "the library"),
     }
 }
@@ -83,24 +81,25 @@ fn one_block(words: &mut Words, out: &mut dyn Write, cipher: Cipher) -> Result<(
     Ok(())
 }
 
-/// The module's encryption, at the offset, with the step and in the form that the caller names.
+/// Masked runs take the standard form alone, and are still told so.
+const FORM: u8 = 0;
+
+/// The module's encryption, at the offset and with the step that the caller names.
 pub fn mask(words: &mut Words, out: &mut dyn Write) -> Result<(), Fault> {
     let offset = words.number_of("offset")?;
     let step = words.number_of("step")?;
-    let form = words.number_of("form")?;
     let masks = words.bytes_of("masks")?;
     let keyed = Keyed::read(words)?;
     let block = words.bytes("block")?;
     words.end()?;
     let offset =
         offset.ok_or_else(|| Fault::caller("--offset is missing: the run's offset, 0 to 15, is the caller's to choose"))?;
-    let masking = Masking { masks, offset, step, form };
+    let masking = Masking { masks, offset, step };
     let (offset, step) = (masking.offset.value, Number::step(&masking.step));
-    let form = masking.form.as_ref().map_or(0, |form| form.value);
     let mut output = [0; 16];
     let made = match &masking.masks {
-        None => slipgrease::encrypt_published(&keyed.bytes, &block.bytes, &mut output, offset, step, form),
-        Some(masks) => slipgrease::encrypt_masked(&keyed.bytes, &block.bytes, &mut output, &masks.bytes, offset, step, form),
+        None => slipgrease::encrypt_published(&keyed.bytes, &block.bytes, &mut output, offset, step, FORM),
+        Some(masks) => slipgrease::encrypt_masked(&keyed.bytes, &block.bytes, &mut output, &masks.bytes, offset, step, FORM),
     };
     made.map_err(|refusal| explained(refusal, &keyed, &block, Some(&masking)))?;
     writeln!(out, "{}", digits(&output))?;
@@ -111,19 +110,16 @@ pub fn mask(words: &mut Words, out: &mut dyn Write) -> Result<(), Fault> {
 pub fn blocks(words: &mut Words, out: &mut dyn Write) -> Result<(), Fault> {
     let offsets = words.bytes_of("offsets")?;
     let step = words.number_of("step")?;
-    let form = words.number_of("form")?;
     let keyed = Keyed::read(words)?;
     let blocks = words.all_bytes("blocks")?;
     let offsets = offsets
         .ok_or_else(|| Fault::caller("--offsets is missing: a byte for each block, 00 to 0f, that is the caller's to choose"))?;
     let mut output = vec![0; blocks.bytes.len()];
-    let number = form.as_ref().map_or(0, |form| form.value);
-    let made = slipgrease::encrypt_blocks(&keyed.bytes, &blocks.bytes, &mut output, &offsets.bytes, Number::step(&step), number);
-    made.map_err(|refusal| match (refusal, &step, &form) {
-        (Refusal::OffsetsLength, ..) => offsets.refused(refusal),
-        (Refusal::OffsetRange, ..) => wrong_offset(&offsets),
-        (Refusal::StepWrong, Some(step), _) => step.refused(refusal),
-        (Refusal::FormUnknown, _, Some(form)) => form.refused(refusal),
+    let made = slipgrease::encrypt_blocks(&keyed.bytes, &blocks.bytes, &mut output, &offsets.bytes, Number::step(&step), FORM);
+    made.map_err(|refusal| match (refusal, &step) {
+        (Refusal::OffsetsLength, _) => offsets.refused(refusal),
+        (Refusal::OffsetRange, _) => wrong_offset(&offsets),
+        (Refusal::StepWrong, Some(step)) => step.refused(refusal),
         _ => explained(refusal, &keyed, &blocks, None),
     })?;
     for block in output.chunks(16) {

@@ -42,12 +42,11 @@ $ slipgrease decrypt 000102030405060708090a0b0c0d0e0f101112131415161718191a1b1c1
     },
     Help {
         name: "mask",
-        usage: "mask --offset O [--step D] [--form F] [--masks MASKS] KEY BLOCK",
+        usage: "mask --offset O [--step D] [--masks MASKS] KEY BLOCK",
         summary: "a block encrypted by the module's engine",
         text: "\
-Prints the block that a masked run ends with, at an offset from 0 to 15 that the caller chooses. The step is how far the labels of
-the masks advance in a round, 1 or 4 to 15. Form 0 gives the standard ciphertext; form 1 the ciphertext still covered by
-Mask(O+14D), as early modules made it. Where they are not named, the step is 1, the form 0 and the masks are the published ones.
+Prints the ciphertext that a masked run ends with, at an offset from 0 to 15 that the caller chooses. The step is how far the
+labels of the masks advance in a round, 1 or 4 to 15. Where they are not named, the step is 1 and the masks are the published ones.
 --schedule SCHEDULE can stand for the key.",
         example: "\
 $ slipgrease mask --offset 3 000102030405060708090a0b0c0d0e0f101112131415161718191a1b1c1d1e1f 00112233445566778899aabbccddeeff
@@ -55,17 +54,30 @@ $ slipgrease mask --offset 3 000102030405060708090a0b0c0d0e0f1011121314151617181
     },
     Help {
         name: "blocks",
-        usage: "blocks --offsets OFFSETS [--step D] [--form F] KEY BLOCK ..",
+        usage: "blocks --offsets OFFSETS [--step D] KEY BLOCK ..",
         summary: "up to 256 blocks encrypted by the module's engine in one call",
         text: "\
 Prints for each block what mask prints for it, a block to a line. OFFSETS has a byte for each of them, 00 to 0f. If any is wrong,
-no block is encrypted. The step, 1 or 4 to 15, and the form are the same for all; where they are not named, 1 and 0. Blocks that
-are not given as arguments are all words of standard input. --schedule SCHEDULE can stand for the key.",
+no block is encrypted. The step is the same for all, and is 1 unless another is named, 4 to 15. Blocks that are not given as
+arguments are all words of standard input. --schedule SCHEDULE can stand for the key.",
         example: "\
 $ slipgrease blocks --offsets 030f 603deb1015ca71be2b73aef0857d77811f352c073b6108d72d9810a30914dff4 \
 6bc1bee22e409f96e93d7e117393172a ae2d8a571e03ac9c9eb76fac45af8e51
 f3eed1bdb5d2a03c064b5a7e3db181f8
 591ccb10d410ed26dc5ba74a31362870",
+    },
+    Help {
+        name: "convert",
+        usage: "convert [STORED OFFSET]",
+        summary: "the standard block of one that an early module stored in form 1",
+        text: "\
+Prints the standard ciphertext of a block that an early module stored in form 1, with the published masks and step 1: it takes off
+Mask(OFFSET+14), which is still on the block. OFFSET is that of the block's run, 0 to 15. Without arguments each line of standard
+input has a stored block and its offset, what follows a # is left out, and the standard blocks are printed in their order, a block
+to a line. If any line is wrong, no block is printed.",
+        example: "\
+$ slipgrease convert 7e5db7c5675e16e38f96dc0ae8e5a640 0
+8ea2b7ca516745bfeafc49904b496089",
     },
     Help {
         name: "record",

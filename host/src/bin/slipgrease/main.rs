@@ -6,6 +6,7 @@
 #![forbid(unsafe_code)]
 
 mod cipher;
+mod convert;
 mod fault;
 mod help;
 mod hex;
@@ -44,6 +45,7 @@ const COMMANDS: &[(&str, Command)] = &[
     ("decrypt", cipher::decrypt),
     ("mask", cipher::mask),
     ("blocks", cipher::blocks),
+    ("convert", convert::convert),
     ("record", record::record),
     ("pipe", pipe::pipe),
     ("sheet", sheet::sheet),

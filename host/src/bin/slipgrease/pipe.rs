@@ -4,7 +4,7 @@ use crate::cipher::{explained, Keyed};
 use crate::fault::Fault;
 use crate::hex::digits;
 use crate::words::Words;
-use slipgrease::{Block, Form, Masks, Offset, Schedule};
+use slipgrease::{Block, Masks, Offset, Schedule};
 use std::fmt;
 use std::io::Write;
 
@@ -26,7 +26,7 @@ pub fn pipe(words: &mut Words, out: &mut dyn Write) -> Result<(), Fault> {
     writeln!(out, "  {:<38}{:<34}equal", "    the block as it is covered", "the key")?;
     let (mut equal, mut states, mut bytes) = (0, Range::new(), Range::new());
     for offset in Offset::all() {
-        let in_the_module = schedule.encrypt_published(&block, offset, step, Form::Standard);
+        let in_the_module = schedule.encrypt_published(&block, offset, step);
         let covered = schedule.record_masked(&block, &Masks::PUBLISHED, offset, step);
         let same = in_the_module == at_the_rack;
         equal += usize::from(same);

@@ -40,7 +40,7 @@ pub fn record(words: &mut Words, out: &mut dyn Write) -> Result<(), Fault> {
 fn masking(offset: Option<Number>, step: Option<Number>, masks: Option<Given>) -> Result<Option<Masking>, Fault> {
     let without_offset = |what| Err(Fault::caller(format!("{what} and --offset is missing: a run without an offset is plain")));
     match (offset, &step, &masks) {
-        (Some(offset), ..) => Ok(Some(Masking { masks, offset, step, form: None })),
+        (Some(offset), ..) => Ok(Some(Masking { masks, offset, step })),
         (None, _, Some(_)) => without_offset("masks are given"),
         (None, Some(_), None) => without_offset("a step is given"),
         (None, None, None) => Ok(None),
@@ -74,7 +74,7 @@ impl Run {
                 slipgrease::record_plain(&keyed.bytes, &block.bytes, &mut states).map_err(refused)?;
                 "plain".to_string()
             }
-            Some(Masking { masks, offset, step, .. }) => {
+            Some(Masking { masks, offset, step }) => {
                 let bytes = masks.as_ref().map_or(&Masks::PUBLISHED.as_bytes()[..], |masks| &masks.bytes);
                 let (offset, step) = (offset.value, Number::step(step));
                 slipgrease::record_masked(&keyed.bytes, &block.bytes, bytes, offset, step, &mut states).map_err(refused)?;

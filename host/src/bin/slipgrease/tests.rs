@@ -1,6 +1,7 @@
 //! Commands as they are typed. What is expected is from FIPS 197, the scope's own examples, or worked out here.
 
 mod steps;
+mod stored;
 
 use super::{help, run, COMMANDS};
 use std::fs;
@@ -78,22 +79,17 @@ fn missing_arguments_are_read_from_standard_input() {
 fn the_module_makes_the_ciphertext_at_every_offset() {
     for offset in 0..16 {
         assert_eq!(printed(&format!("mask --offset {offset} {KEY} {BLOCK}")).trim(), CIPHERTEXT);
-        assert_eq!(printed(&format!("mask {KEY} {BLOCK} --masks {BLOCK} --offset {offset} --form 0")).trim(), CIPHERTEXT);
+        assert_eq!(printed(&format!("mask {KEY} {BLOCK} --masks {BLOCK} --offset {offset}")).trim(), CIPHERTEXT);
     }
 }
 
-/// Mask(14) begins f0 ff 00 0f, so the block in form 1 at offset 0 begins 7e 5d b7 c5.
-#[test]
-fn form_1_is_still_covered() {
-    assert!(printed(&format!("mask --offset 0 --form 1 {KEY} {BLOCK}")).starts_with("7e5db7c5"));
-}
-
-/// Mask(o+14) begins 0f 36 at offset 3 and c9 f0 at offset 15, so of the ciphertext 8e a2 .. form 1 makes 81 94 and 47 52.
+/// SP 800-38A, F.1.5, its last block before the third.
 #[test]
 fn blocks_are_made_in_their_order() {
-    let made = printed(&format!("blocks --offsets 030f --form 1 {KEY} {BLOCK} {BLOCK}"));
-    let beginnings: Vec<&str> = made.lines().map(|line| &line[..4]).collect();
-    assert_eq!(beginnings, ["8194", "4752"]);
+    let key = "603deb1015ca71be2b73aef0857d77811f352c073b6108d72d9810a30914dff4";
+    let (third, last) = ("30c81c46a35ce411e5fbc1191a0a52ef", "f69f2445df4f9b17ad2b417be66c3710");
+    let made = printed(&format!("blocks --offsets 030f {key} {last} {third}"));
+    assert_eq!(made, "23304b7a39f9f3ff067d8d8f9e24ecc7\nb6ed21b99ca6f4f9f153e7b1beafed1d\n");
     let (out, failed) = typed("blocks --offsets 000f07", &format!("{KEY}\n{BLOCK} {BLOCK}\n{BLOCK}\n"));
     assert_eq!((out, failed), (format!("{CIPHERTEXT}\n").repeat(3), None));
     let (out, failed) = typed(&format!("blocks --offsets - {KEY}"), "");
@@ -131,7 +127,6 @@ fn refusals_say_what_was_wrong() {
         ),
         (format!("mask --offset 16 {KEY} {BLOCK}"), "--offset 16: an offset is above 15 (reply 6, OFFSET_RANGE)", 1),
         (format!("mask --offset 272 {KEY} {BLOCK}"), "--offset 272: an offset is above 15 (reply 6, OFFSET_RANGE)", 1),
-        (format!("mask --offset 1 --form 2 {KEY} {BLOCK}"), "--form 2: the form is neither 0 nor 1 (reply 7, FORM_UNKNOWN)", 1),
         (
             format!("blocks --offsets 00 {KEY} {BLOCK} 00"),
             "blocks, the last arguments: 17 bytes: the input is not 16 bytes long; of many blocks, not 16 for each of 256 at most \
@@ -146,11 +141,6 @@ fn refusals_say_what_was_wrong() {
         (
             format!("blocks --offsets 0010 {KEY} {BLOCK} {BLOCK}"),
             "offsets, option --offsets: 10 for block 1: an offset is above 15 (reply 6, OFFSET_RANGE)",
-            1,
-        ),
-        (
-            format!("blocks --offsets 00 --form 2 {KEY} {BLOCK}"),
-            "--form 2: the form is neither 0 nor 1 (reply 7, FORM_UNKNOWN)",
             1,
         ),
         (

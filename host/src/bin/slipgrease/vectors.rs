@@ -3,8 +3,8 @@
 use crate::fault::Fault;
 use crate::hex;
 use crate::progress::Progress;
-use crate::words::Words;
-use slipgrease::{Block, Form, Offset, Refusal, Schedule, Step};
+use crate::words::{with_words, Words};
+use slipgrease::{Block, Offset, Refusal, Schedule, Step};
 use std::fs;
 use std::io::Write;
 
@@ -51,23 +51,20 @@ fn made(vector: &Vector, step: Step) -> Vec<(String, Block, Block)> {
         ("decrypt".to_string(), schedule.decrypt(ciphertext), *block),
     ];
     made.extend(Offset::all().map(|offset| {
-        let masked = schedule.encrypt_published(block, offset, step, Form::Standard);
+        let masked = schedule.encrypt_published(block, offset, step);
         (format!("mask --offset {} --step {}", offset.number(), step.number()), masked, *ciphertext)
     }));
     made
 }
 
-/// Key, block and ciphertext to a line; what follows a # is left out.
+/// Key, block and ciphertext to a line.
 fn read(file: &str, text: &str) -> Result<Vec<Vector>, Fault> {
     let mut vectors = Vec::new();
-    for (index, line) in text.lines().enumerate() {
-        let line = line.split('#').next().unwrap_or("");
-        let words: Vec<&str> = line.split_whitespace().collect();
+    for (line, words) in with_words(text) {
         match words[..] {
-            [] => {}
-            [key, block, ciphertext] => vectors.push(vector(file, index + 1, key, block, ciphertext)?),
+            [key, block, ciphertext] => vectors.push(vector(file, line, key, block, ciphertext)?),
             _ => {
-                let place = format!("{file}, line {}", index + 1);
+                let place = format!("{file}, line {line}");
                 return Err(Fault::caller(format!("{place}: {} words, and key, block and ciphertext are expected", words.len())));
             }
         }

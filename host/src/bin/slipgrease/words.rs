@@ -39,6 +39,11 @@ impl Number {
     }
 }
 
+/// What became of an option that masked runs once had.
+const FORM_RETIRED: &str =
+    "--form: form 1 has retired, and every block comes out in the standard form; slipgrease convert makes the standard block \
+     of one that was stored in form 1";
+
 pub struct Words<'a> {
     command: &'a str,
     left: Vec<String>,
@@ -88,13 +93,13 @@ impl<'a> Words<'a> {
         }
     }
 
-    /// The number behind an option. One that no byte holds goes on as 255, which is as much out of range.
+    /// The number behind an option.
     pub fn number_of(&mut self, option: &'static str) -> Result<Option<Number>, Fault> {
         match self.option(option)? {
             None => Ok(None),
-            Some(word) => match word.parse::<u64>() {
-                Ok(number) => Ok(Some(Number { what: option, word, value: u8::try_from(number).unwrap_or(255) })),
-                Err(_) => Err(self.usage(format!("--{option} {word}: a decimal number is expected"))),
+            Some(word) => match number(&word) {
+                Some(value) => Ok(Some(Number { what: option, word, value })),
+                None => Err(self.usage(format!("--{option} {word}: a decimal number is expected"))),
             },
         }
     }
@@ -108,7 +113,10 @@ impl<'a> Words<'a> {
     /// The next argument, or the next word of standard input where there is none left.
     pub fn word(&mut self, what: &str) -> Result<(String, String), Fault> {
         if let Some(option) = self.left.iter().find(|word| word.starts_with('-') && word.len() > 1) {
-            return Err(self.usage(format!("no option {option} here")));
+            return Err(match option.as_str() {
+                "--form" => Fault::caller(FORM_RETIRED),
+                _ => self.usage(format!("no option {option} here")),
+            });
         }
         if !self.left.is_empty() {
             self.taken += 1;
@@ -129,6 +137,16 @@ impl<'a> Words<'a> {
     pub fn bytes(&mut self, what: &'static str) -> Result<Given, Fault> {
         let (word, place) = self.word(what)?;
         given(what, place, &word)
+    }
+
+    /// All of standard input, where there is no argument.
+    pub fn input_alone(&mut self) -> Result<Option<String>, Fault> {
+        if !self.left.is_empty() {
+            return Ok(None);
+        }
+        let mut text = String::new();
+        self.input.read_to_string(&mut text)?;
+        Ok(Some(text))
     }
 
     /// The bytes of all arguments that are left, or of all words of standard input where there is none.
@@ -155,9 +173,21 @@ impl<'a> Words<'a> {
     }
 }
 
-fn given(what: &'static str, place: String, word: &str) -> Result<Given, Fault> {
+/// The bytes of a word.
+pub fn given(what: &'static str, place: String, word: &str) -> Result<Given, Fault> {
     match hex::bytes(word) {
         Ok(bytes) => Ok(Given { what, place, bytes }),
         Err(wrong) => Err(Fault::caller(format!("{what}, {place}: {wrong}"))),
     }
+}
+
+/// A decimal number. One that no byte holds goes on as 255, which is as much out of range.
+pub fn number(word: &str) -> Option<u8> {
+    word.parse::<u64>().ok().map(|number| u8::try_from(number).unwrap_or(255))
+}
+
+/// The lines that have words, by their number, and the words. What follows a # is left out.
+pub fn with_words(text: &str) -> impl Iterator<Item = (usize, Vec<&str>)> {
+    let bare = text.lines().map(|line| line.split('#').next().unwrap_or(""));
+    (1..).zip(bare.map(|line| line.split_whitespace().collect::<Vec<_>>())).filter(|(_, words)| !words.is_empty())
 }

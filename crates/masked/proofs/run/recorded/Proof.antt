@@ -7,12 +7,12 @@ use native.Mathlib.Omega.{arith}
 use borrow.Author.Needs.{needs}
 use lib.Dec.{lit≤, lit<}
 use lib.ListN.{length}
-use Rattle.aes.specs.State.{at, Bytes}
+use Rattle.aes.specs.State.{at, shiftRows, Bytes}
 use Rattle.aes.specs.Record.{block, bytes}
 use Rattle.aes.proofs.Steps.{byte}
 use Rattle.aes.proofs.Undo.{add-size}
 use Rattle.aes.proofs.Written.{Written, turns, written-whole}
-use Rattle.masks.specs.Mask.{_⊞_, mask, ending}
+use Rattle.masks.specs.Mask.{_⊞_, mask}
 use Rattle.masked.specs.Lent.{steps, pointAfter}
 use Rattle.masks.proofs.Row.{one-more, ended}
 use Rattle.masked.proofs.Labels.{first-label, label-below}
@@ -25,7 +25,7 @@ abbrev Inv-loop : tie.InvT-loop
 Inv-loop w masks boxes compensations offset states₀ s₀ n₀ states s n =
     (s .label .0 ≡ (offset + masks .1 * s .round .0) % 16) × (s .round .0 ≡ (n + 3) / 5)
     × ((n ≤ 69) × (length (s₀ .bytes) ≡ 16) × (length states ≡ 1136)
-    × Written (steps w boxes compensations offset (masks .1) (ending 0 (mask (masks .0) 0 ((offset + masks .1 * 14) % 16)))) (s₀ .bytes) 1136 (block ∷ turns after n) (s .bytes) states)
+    × Written (steps w boxes compensations offset (masks .1) (shiftRows (mask (masks .0) 0 ((offset + masks .1 * 14) % 16)))) (s₀ .bytes) 1136 (block ∷ turns after n) (s .bytes) states)
 
 abbrev μ-loop : tie.MeasureT-loop
 μ-loop w masks boxes compensations offset states₀ s₀ n₀ states s n = 69 - n
@@ -95,9 +95,9 @@ returns c =
     let label : l .s .label .0 ≡ (a .offset + a .masks .1 * 14) % 16 = l .inv .0 ∙ ap (λ (r : ℕ). (a .offset + a .masks .1 * r) % 16) (last-round (l .n) _ (l .inv .1) turned) in
     written-whole (steps-sized _ _ _ _ _ _) (h .1) after 70 after-all 70 (lit≤ tt) (lit≤ tt)
     (after-written (steps-sized _ _ _ _ _ _) (h .1) 69 (lit< tt) (rw turned at (h .3)) refl
-    (finished .uncover .ensures ∙ ap (λ (j : ℕ). l .s .bytes ⊞ ending 0 (mask (a .masks .0) 0 j)) label))
+    (finished .uncover .ensures ∙ ap (λ (j : ℕ). l .s .bytes ⊞ shiftRows (mask (a .masks .0) 0 j)) label))
     ∙ ap bytes
-    (lent-record m w 0 (a .offset) (a .masks .1) b (covering .cover .result .bytes) (a .boxes .now) (a .compensations .now) (ending 0 (mask (a .masks .0) 0 ((a .offset + a .masks .1 * 14) % 16)))
+    (lent-record m w (a .offset) (a .masks .1) b (covering .cover .result .bytes) (a .boxes .now) (a .compensations .now) (shiftRows (mask (a .masks .0) 0 ((a .offset + a .masks .1 * 14) % 16)))
     (covering .cover .ensures .0) (start .pre .1) (start .pre .2) refl)
 
 pub recorded-spec : {M : Type 1} → statement M

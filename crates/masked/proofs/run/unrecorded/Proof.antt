@@ -13,7 +13,7 @@ use Rattle.aes.specs.Key.{roundKey}
 use Rattle.aes.specs.Record.{Point, block, keyed, boxed, shifted, mixed, compensated, closed, uncovered, whole, final, wholes, points, run, last}
 use Rattle.aes.proofs.Steps.{byte}
 use Rattle.aes.proofs.Undo.{add-size}
-use Rattle.masks.specs.Mask.{_⊞_, mask, ending}
+use Rattle.masks.specs.Mask.{_⊞_, mask}
 use Rattle.masked.specs.Run.{maskedCipher}
 use Rattle.masks.specs.Order.{boxedBy}
 use Rattle.masked.specs.Lent.{steps}
@@ -39,8 +39,8 @@ unfolding points
 all-begun = append-assoc (block ∷ wholes 13) (half 13) (closed 13 ∷ uncovered 13 ∷ [])
 
 -- the constant of a run's end
-abbrev end : ℕ → List ℕ → ℕ → ℕ → List ℕ
-end form M o d = ending form (mask M 0 ((o + d * 14) % 16))
+abbrev end : List ℕ → ℕ → ℕ → List ℕ
+end M o d = shiftRows (mask M 0 ((o + d * 14) % 16))
 
 -- the first half goes on from the covered block
 first-begun : (w b c : List ℕ) (o d : ℕ) (e s : List ℕ) (l r : ℕ) (t : List ℕ) → l ≡ o % 16 → r ≡ 0 → t ≡ shiftRows (boxedBy b l (s ⊞ roundKey w r))
@@ -49,14 +49,14 @@ unfolding wholes run last steps
 first-begun w b c o d e s l r t hl hr ht = ht ∙ λ i. shiftRows (boxedBy b ((hl ∙ first-label o d (o % 16) 0 refl refl) i) (s ⊞ roundKey w (hr i)))
 
 abbrev Inv-loop : tie.InvT-loop
-Inv-loop w masks boxes compensations offset form output part t₀ t =
+Inv-loop w masks boxes compensations offset output part t₀ t =
     (t .label .0 ≡ (offset + masks .1 * t .round .0) % 16) × (0 < t .round .0) × (t .round .0 < 15)
     × ((s : List ℕ)
-    → t₀ .bytes ≡ last s (run (steps w boxes compensations offset (masks .1) (end form (masks .0) offset (masks .1))) s (begun 0))
-    → t .bytes ≡ last s (run (steps w boxes compensations offset (masks .1) (end form (masks .0) offset (masks .1))) s (begun (t .round .0 - 1))))
+    → t₀ .bytes ≡ last s (run (steps w boxes compensations offset (masks .1) (end (masks .0) offset (masks .1))) s (begun 0))
+    → t .bytes ≡ last s (run (steps w boxes compensations offset (masks .1) (end (masks .0) offset (masks .1))) s (begun (t .round .0 - 1))))
 
 abbrev μ-loop : tie.MeasureT-loop
-μ-loop w masks boxes compensations offset form output part t₀ t = 14 - t .round .0
+μ-loop w masks boxes compensations offset output part t₀ t = 14 - t .round .0
 
 first-lent : tie.Need-half-requires Inv-loop μ-loop
 first-lent c κs =
@@ -129,7 +129,7 @@ again c =
     let n : ℕ = l .t .round .0 in
     let r : ℕ = n - 1 in
     let lt = unfinished n (l .inv .2) (eqb-false _ 14 (sym (test .before .finished .ensures) ∙ not-true _ (test .if1 .taken))) in
-    let f = steps (a .w .now) (a .boxes .now) (a .compensations .now) (a .offset) (a .masks .1) (end (a .form) (a .masks .0) (a .offset) (a .masks .1)) in
+    let f = steps (a .w .now) (a .boxes .now) (a .compensations .now) (a .offset) (a .masks .1) (end (a .masks .0) (a .offset) (a .masks .1)) in
     let n-is : n ≡ suc r = before-it n (l .inv .1) in
     let label : l .t .label .0 ≡ (a .offset + a .masks .1 * suc r) % 16 = l .inv .0 ∙ ap (λ (m : ℕ). (a .offset + a .masks .1 * m) % 16) n-is in
     let reached = h .0 ∙ λ i. shiftRows (boxedBy (a .boxes .now) ((k .1 ∙ label) i) ((k .0 ∙ λ j. mixColumns (l .t .bytes) ⊞ roundKey (a .compensations .now) (label j)) i ⊞ roundKey (a .w .now) ((k .2 ∙ n-is) i))) in
@@ -179,7 +179,7 @@ returns c =
     let start = known .before in
     let a = start .args in
     let s : List ℕ = covering .cover .result .bytes in
-    let constant : List ℕ = end (a .form) (a .masks .0) (a .offset) (a .masks .1) in
+    let constant : List ℕ = end (a .masks .0) (a .offset) (a .masks .1) in
     let f = steps (a .w .now) (a .boxes .now) (a .compensations .now) (a .offset) (a .masks .1) constant in
     let b : Bytes 16 (a .block .0) = field-bytes {xs = a .block .0} (start .good .0 .1 .1 .0) in
     let m : Bytes 16 (a .masks .0) = field-bytes {xs = a .masks .0} (start .good .1 .1 .0 .1 .1 .0) in
@@ -189,11 +189,11 @@ returns c =
     let over : l .t .round .0 ≡ 14 = eqb-true _ 14 (sym (asked .finished .ensures) ∙ not-false _ (exit .if1 .left)) in
     let label : key .add-key .result .label .0 ≡ (a .offset + a .masks .1 * 14) % 16 = key .add-key .ensures .1 ∙ l .inv .0 ∙ ap (λ (n : ℕ). (a .offset + a .masks .1 * n) % 16) over in
     reached-more f (begun 13) (closed 13 ∷ uncovered 13 ∷ []) s (l .t .bytes) _ (rw over at (l .inv .3 s begun-first))
-    (closing .uncover .ensures ∙ λ i. (key .add-key .ensures .0 ∙ λ j. l .t .bytes ⊞ roundKey (a .w .now) (over j)) i ⊞ ending (a .form) (mask (a .masks .0) 0 (label i)))
+    (closing .uncover .ensures ∙ λ i. (key .add-key .ensures .0 ∙ λ j. l .t .bytes ⊞ roundKey (a .w .now) (over j)) i ⊞ shiftRows (mask (a .masks .0) 0 (label i)))
     ∙ ap (λ (ps : List Point). last s (run f s ps)) all-begun
     ∙ last-any f s (a .block .0) s block (wholes 13 ++ final 13)
     ∙ ap (last (a .block .0))
-    (lent-record m w (a .form) (a .offset) (a .masks .1) b s (a .boxes .now) (a .compensations .now) constant (k .0) (start .pre .1) (start .pre .2) refl)
+    (lent-record m w (a .offset) (a .masks .1) b s (a .boxes .now) (a .compensations .now) constant (k .0) (start .pre .1) (start .pre .2) refl)
 
 pub unrecorded-spec : {M : Type 1} → statement M
 unrecorded-spec =

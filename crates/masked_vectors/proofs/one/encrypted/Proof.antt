@@ -6,10 +6,10 @@ use Rattle.masked_vectors.proofs.one.encrypted.Statement.{statement}
 use Rattle.masked_vectors.proofs.one.encrypted.Tie as tie
 
 abbrev Inv-loop : tie.InvT-loop
-Inv-loop other form row schedule tally₀ i₀ tally i = i ≤ 208
+Inv-loop other v schedule tally₀ i₀ tally i = i ≤ 208
 
 abbrev μ-loop : tie.MeasureT-loop
-μ-loop other form row schedule tally₀ i₀ tally i = 208 - i
+μ-loop other v schedule tally₀ i₀ tally i = 208 - i
 
 pub encrypted-spec : {M : Type 1} → statement M
 encrypted-spec =

@@ -48,7 +48,7 @@ returns-2 c =
     let told = passed-on .before in
     let a = told .before .before .before .before .before .before .args in
     let cs : List Check = checks (a .schedule .now) (a .input .now) (a .output .now) (a .masks .now) (a .offset) (a .step) (a .form) in
-    (λ i. (0, (run .unrecorded .ensures ∙ λ j. maskedCipher 14 (a .form) (table .lent .ensures .0 j) (a .offset) (table .lent .ensures .1 j) (a .schedule .now) (block .lent2 .ensures j)) i))
+    (λ i. (0, (run .unrecorded .ensures ∙ λ j. maskedCipher 14 (table .lent .ensures .0 j) (a .offset) (table .lent .ensures .1 j) (a .schedule .now) (block .lent2 .ensures j)) i))
     ∙ passed (a .output .now) _ [] cs tt (told .refusal .ensures) (passed-on .if1 .left)
 
 pub encrypt-masked-spec : {M : Type 1} → statement M

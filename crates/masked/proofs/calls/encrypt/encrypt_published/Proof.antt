@@ -58,7 +58,7 @@ returns-2 c =
     let a = told .before .before .before .before .before .args in
     let cs : List Check = publishedChecks (a .schedule .now) (a .input .now) (a .output .now) (a .offset) (a .step) (a .form) in
     let reply : told .refusal .result ≡ refusal cs = told .refusal .ensures ∙ published-refusal (a .schedule .now) (a .input .now) (a .output .now) (a .offset) (a .step) (a .form) in
-    (λ i. (0, (run .unrecorded .ensures ∙ λ j. maskedCipher 14 (a .form) (masks .published .ensures .0 j) (a .offset) (masks .published .ensures .1 j) (a .schedule .now) (block .lent .ensures j)) i))
+    (λ i. (0, (run .unrecorded .ensures ∙ λ j. maskedCipher 14 (masks .published .ensures .0 j) (a .offset) (masks .published .ensures .1 j) (a .schedule .now) (block .lent .ensures j)) i))
     ∙ passed (a .output .now) _ [] cs tt reply (masks .before .if1 .left)
 
 pub encrypt-published-spec : {M : Type 1} → statement M

@@ -18,11 +18,11 @@ use Rattle.masked.proofs.calls.many.in_turn.Statement.{statement}
 use Rattle.masked.proofs.calls.many.in_turn.Tie as tie
 
 abbrev Inv-loop : tie.InvT-loop
-Inv-loop schedule input output₀ offsets step form masks boxes compensations k₀ output k =
-    (k ≤ length offsets) × Holds (16 * length offsets) (inRow (inTurn schedule input offsets step form) k) output
+Inv-loop schedule input output₀ offsets step masks boxes compensations k₀ output k =
+    (k ≤ length offsets) × Holds (16 * length offsets) (inRow (inTurn schedule input offsets step) k) output
 
 abbrev μ-loop : tie.MeasureT-loop
-μ-loop schedule input output₀ offsets step form masks boxes compensations k₀ output k = length offsets - k
+μ-loop schedule input output₀ offsets step masks boxes compensations k₀ output k = length offsets - k
 
 begin : tie.Need-loop-holds Inv-loop μ-loop
 unfolding inRow
@@ -81,8 +81,8 @@ again c =
     let same : block .lent .result .0 ≡ take 16 (drop (16 * l .k) b) = block .lent .ensures ∙ λ i. take (width (l .k) i) (drop (16 * l .k) b) in
     let one : place .offset .result ≡ at os (l .k) = place .offset .ensures in (
       one-more (turn .loop-test .taken),
-      row-lent (inTurn w b os (a .step) (a .form)) 16 (λ j. masked-size 14 (a .form) published (at os j) (a .step) w _) (l .k) (16 * length os) (l .output) _ (room (turn .loop-test .taken)) (l .inv .1)
-          (run .unrecorded .ensures ∙ λ i. maskedCipher 14 (a .form) (masks .published .ensures .0 i) (one i) (masks .published .ensures .1 i) w (same i)),
+      row-lent (inTurn w b os (a .step)) 16 (λ j. masked-size 14 published (at os j) (a .step) w _) (l .k) (16 * length os) (l .output) _ (room (turn .loop-test .taken)) (l .inv .1)
+          (run .unrecorded .ensures ∙ λ i. maskedCipher 14 (masks .published .ensures .0 i) (one i) (masks .published .ensures .1 i) w (same i)),
     )
 
 returns : tie.Need-returns Inv-loop μ-loop
@@ -92,9 +92,9 @@ returns c =
     let w : List ℕ = a .schedule .now in
     let os : List ℕ = a .offsets .now in
     let n : ℕ = length os in
-    let f : ℕ → List ℕ = inTurn w (a .input .now) os (a .step) (a .form) in
+    let f : ℕ → List ℕ = inTurn w (a .input .now) os (a .step) in
     let all : l .k ≡ n = ended (l .inv .0) (c .loop-test .left) in
-    holds-all (16 * n) (inRow f n) (l .output) (rw all at (l .inv .1)) (row-size f 16 (λ j. masked-size 14 (a .form) published (at os j) (a .step) w _) n)
+    holds-all (16 * n) (inRow f n) (l .output) (rw all at (l .inv .1)) (row-size f 16 (λ j. masked-size 14 published (at os j) (a .step) w _) n)
 
 pub in-turn-spec : {M : Type 1} → statement M
 in-turn-spec =

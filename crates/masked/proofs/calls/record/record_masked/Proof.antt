@@ -16,7 +16,7 @@ use Rattle.masked.proofs.calls.record.record_masked.Tie as tie
 
 -- the record that is written where every check holds
 abbrev recorded : List ℕ → List ℕ → List ℕ → ℕ → ℕ → List ℕ
-recorded w b M o d = bytes (maskedRecord 14 0 M o d w b)
+recorded w b M o d = bytes (maskedRecord 14 M o d w b)
 
 returns : tie.Need-returns
 returns c =

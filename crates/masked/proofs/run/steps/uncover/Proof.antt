@@ -4,7 +4,8 @@ use mathlib.Core.List.{List}
 use mathlib.Core.Path.{ap, _∙_}
 use Prim.Native.Nat.{ℕ}
 use borrow.Author.Needs.{needs}
-use Rattle.masks.specs.Mask.{_⊞_, ending}
+use Rattle.aes.specs.State.{shiftRows}
+use Rattle.masks.specs.Mask.{_⊞_}
 use Rattle.masked.proofs.run.steps.uncover.Statement.{statement}
 use Rattle.masked.proofs.run.steps.uncover.Tie as tie
 
@@ -14,7 +15,7 @@ returns c =
     let add = kept .before .before in
     let ended = add .before in
     let a = ended .before .before .before .before .args in
-    let constant = ended .ending .ensures ∙ ap (ending (a .form)) (ended .before .mask .ensures) in
+    let constant = ended .shift-rows .ensures ∙ ap shiftRows (ended .before .mask .ensures) in
     kept .keep .ensures .1 ∙ kept .keep .ensures .0 ∙ add .add .ensures ∙ ap (λ (k : List ℕ). a .s .bytes ⊞ k) constant
 
 pub uncover-spec : {M : Type 1} → statement M
