@@ -6,8 +6,19 @@
 #include <slipgrease.h>
 
 const char *const call_names[MEASURED] = {
-    "expand_key",     "encrypt",      "decrypt",       "encrypt_published",         "encrypt_blocks",
-    "encrypt_masked", "record_plain", "record_masked", "encrypt_published, step 5",
+    "expand_key",
+    "encrypt",
+    "decrypt",
+    "encrypt_published",
+    "encrypt_blocks",
+    "encrypt_masked",
+    "record_plain",
+    "record_masked",
+    "decrypt_published",
+    "decrypt_masked",
+    "record_masked_decryption",
+    "encrypt_published, step 5",
+    "decrypt_published, step 5",
 };
 
 const struct engine library = {
@@ -20,6 +31,9 @@ const struct engine library = {
     slipgrease_encrypt_masked,
     slipgrease_record_plain,
     slipgrease_record_masked,
+    slipgrease_decrypt_published,
+    slipgrease_decrypt_masked,
+    slipgrease_record_masked_decryption,
 };
 
 const struct engine translation = {
@@ -32,6 +46,9 @@ const struct engine translation = {
     translated_encrypt_masked,
     translated_record_plain,
     translated_record_masked,
+    translated_decrypt_published,
+    translated_decrypt_masked,
+    translated_record_masked_decryption,
 };
 
 const uint8_t published_masks[MASK_BYTES] = {

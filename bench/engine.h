@@ -6,9 +6,10 @@
 #include <stddef.h>
 #include <stdint.h>
 
-enum { KEY_BYTES = 32, SCHEDULE_BYTES = 240, BLOCK_BYTES = 16, MASK_BYTES = 16, RECORD_BYTES = 1136, MOST_BLOCKS = 256 };
+enum { KEY_BYTES = 32, SCHEDULE_BYTES = 240, BLOCK_BYTES = 16, MASK_BYTES = 16, MOST_BLOCKS = 256 };
+enum { RECORD_BYTES = 1136, DECRYPTION_RECORD_BYTES = 1360 };
 
-// After the eight calls comes one of them once more, with another step than 1, which makes it work out its boxes.
+// After the calls come two of them once more, with another step than 1, which makes them work out their boxes.
 enum call {
     EXPAND_KEY,
     ENCRYPT,
@@ -18,8 +19,12 @@ enum call {
     ENCRYPT_MASKED,
     RECORD_PLAIN,
     RECORD_MASKED,
+    DECRYPT_PUBLISHED,
+    DECRYPT_MASKED,
+    RECORD_MASKED_DECRYPTION,
     CALLS,
     ENCRYPT_PUBLISHED_STEP_5 = CALLS,
+    DECRYPT_PUBLISHED_STEP_5,
     MEASURED,
 };
 
@@ -45,6 +50,14 @@ struct engine {
     uint8_t (*record_masked)(const uint8_t *schedule, size_t schedule_length, const uint8_t *input, size_t input_length,
                              const uint8_t *masks, size_t masks_length, uint8_t offset, uint8_t step, uint8_t *states,
                              size_t states_length);
+    uint8_t (*decrypt_published)(const uint8_t *schedule, size_t schedule_length, const uint8_t *input, size_t input_length,
+                                 uint8_t *output, size_t output_length, uint8_t offset, uint8_t step);
+    uint8_t (*decrypt_masked)(const uint8_t *schedule, size_t schedule_length, const uint8_t *input, size_t input_length,
+                              uint8_t *output, size_t output_length, const uint8_t *masks, size_t masks_length, uint8_t offset,
+                              uint8_t step);
+    uint8_t (*record_masked_decryption)(const uint8_t *schedule, size_t schedule_length, const uint8_t *input,
+                                        size_t input_length, const uint8_t *masks, size_t masks_length, uint8_t offset,
+                                        uint8_t step, uint8_t *states, size_t states_length);
 };
 
 extern const struct engine library, translation;

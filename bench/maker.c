@@ -42,11 +42,11 @@ int has_call(const struct maker *maker, enum call call)
 
 static struct {
     uint8_t key[KEY_BYTES], schedule[SCHEDULE_BYTES], plain[BLOCK_BYTES], cipher[BLOCK_BYTES], output[BLOCK_BYTES];
-    uint8_t states[RECORD_BYTES];
+    uint8_t states[RECORD_BYTES], decryption_states[DECRYPTION_RECORD_BYTES];
     uint8_t blocks[BLOCK_BYTES * MOST_BLOCKS], outputs[BLOCK_BYTES * MOST_BLOCKS], offsets[MOST_BLOCKS];
 } work;
 
-enum { OFFSET = 5, STEP = 1, FORM = 0 };
+enum { OFFSET = 5, STEP = 1, OTHER_STEP = 5, FORM = 0 };
 
 void start(const struct maker *maker)
 {
@@ -87,8 +87,8 @@ static void repeat_engine(const struct engine *e, enum call call, long times)
         break;
     case ENCRYPT_PUBLISHED_STEP_5:
         while (times-- > 0)
-            e->encrypt_published(work.schedule, SCHEDULE_BYTES, work.plain, BLOCK_BYTES, work.output, BLOCK_BYTES, OFFSET, 5,
-                                 FORM);
+            e->encrypt_published(work.schedule, SCHEDULE_BYTES, work.plain, BLOCK_BYTES, work.output, BLOCK_BYTES, OFFSET,
+                                 OTHER_STEP, FORM);
         break;
     case ENCRYPT_BLOCKS:
         while (times-- > 0)
@@ -104,10 +104,29 @@ static void repeat_engine(const struct engine *e, enum call call, long times)
         while (times-- > 0)
             e->record_plain(work.schedule, SCHEDULE_BYTES, work.plain, BLOCK_BYTES, work.states, RECORD_BYTES);
         break;
-    default:
+    case RECORD_MASKED:
         while (times-- > 0)
             e->record_masked(work.schedule, SCHEDULE_BYTES, work.plain, BLOCK_BYTES, published_masks, MASK_BYTES, OFFSET,
                              STEP, work.states, RECORD_BYTES);
+        break;
+    case DECRYPT_PUBLISHED:
+        while (times-- > 0)
+            e->decrypt_published(work.schedule, SCHEDULE_BYTES, work.cipher, BLOCK_BYTES, work.output, BLOCK_BYTES, OFFSET, STEP);
+        break;
+    case DECRYPT_PUBLISHED_STEP_5:
+        while (times-- > 0)
+            e->decrypt_published(work.schedule, SCHEDULE_BYTES, work.cipher, BLOCK_BYTES, work.output, BLOCK_BYTES, OFFSET,
+                                 OTHER_STEP);
+        break;
+    case DECRYPT_MASKED:
+        while (times-- > 0)
+            e->decrypt_masked(work.schedule, SCHEDULE_BYTES, work.cipher, BLOCK_BYTES, work.output, BLOCK_BYTES, published_masks,
+                              MASK_BYTES, OFFSET, STEP);
+        break;
+    default:
+        while (times-- > 0)
+            e->record_masked_decryption(work.schedule, SCHEDULE_BYTES, work.cipher, BLOCK_BYTES, published_masks, MASK_BYTES,
+                                        OFFSET, STEP, work.decryption_states, DECRYPTION_RECORD_BYTES);
     }
 }
 

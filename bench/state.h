@@ -8,7 +8,7 @@
 
 #include "tables.h"
 
-enum { BLOCK = 16, SCHEDULE = 240, ROUNDS = 14, STATES = 71 };
+enum { BLOCK = 16, SCHEDULE = 240, ROUNDS = 14, STATES = 71, DECRYPTION_STATES = 85 };
 
 static inline void add(uint8_t state[BLOCK], const uint8_t other[BLOCK])
 {

@@ -31,8 +31,8 @@ uint8_t translated_decrypt(const uint8_t *schedule, size_t schedule_length, cons
 uint8_t translated_record_plain(const uint8_t *schedule, size_t schedule_length, const uint8_t *input, size_t input_length,
                                 uint8_t *states, size_t states_length);
 
-// Works out the boxes with step 1 and the constants of the published masks, which the library has stored: once, before the calls
-// that read them.
+// Works out the boxes with step 1 and the constants of the published masks, which the library has stored, for both directions:
+// once, before the calls that read them.
 void translated_prepare(void);
 
 uint8_t translated_encrypt_published(const uint8_t *schedule, size_t schedule_length, const uint8_t *input, size_t input_length,
@@ -49,5 +49,16 @@ uint8_t translated_encrypt_masked(const uint8_t *schedule, size_t schedule_lengt
 uint8_t translated_record_masked(const uint8_t *schedule, size_t schedule_length, const uint8_t *input, size_t input_length,
                                  const uint8_t *masks, size_t masks_length, uint8_t offset, uint8_t step, uint8_t *states,
                                  size_t states_length);
+
+uint8_t translated_decrypt_published(const uint8_t *schedule, size_t schedule_length, const uint8_t *input, size_t input_length,
+                                     uint8_t *output, size_t output_length, uint8_t offset, uint8_t step);
+
+uint8_t translated_decrypt_masked(const uint8_t *schedule, size_t schedule_length, const uint8_t *input, size_t input_length,
+                                  uint8_t *output, size_t output_length, const uint8_t *masks, size_t masks_length,
+                                  uint8_t offset, uint8_t step);
+
+uint8_t translated_record_masked_decryption(const uint8_t *schedule, size_t schedule_length, const uint8_t *input,
+                                            size_t input_length, const uint8_t *masks, size_t masks_length, uint8_t offset,
+                                            uint8_t step, uint8_t *states, size_t states_length);
 
 #endif

@@ -57,7 +57,7 @@ extern "C" {
 #define SLIPGREASE_REPLY_MASKS_LENGTH 5     /* the mask table, or the buffer for it, is not 16 bytes */
 #define SLIPGREASE_REPLY_OFFSET_RANGE 6     /* an offset is above 15 */
 #define SLIPGREASE_REPLY_FORM_UNKNOWN 7     /* the form is not 0 */
-#define SLIPGREASE_REPLY_RECORD_LENGTH 8    /* the buffer for the record is not 1,136 bytes */
+#define SLIPGREASE_REPLY_RECORD_LENGTH 8    /* the buffer for the record is not 1,136 bytes; for a decryption's, not 1,360 */
 #define SLIPGREASE_REPLY_NO_LOGARITHM 9     /* 00 has no logarithm */
 #define SLIPGREASE_REPLY_POWER_RANGE 10     /* the power is above 254 */
 #define SLIPGREASE_REPLY_SHEET_LENGTH 11    /* the sheet, or the buffer for it, is not 21 bytes in version 1, 22 in version 2 */
@@ -72,14 +72,16 @@ extern "C" {
 #define SLIPGREASE_BLOCK_BYTES 16
 #define SLIPGREASE_MASKS_BYTES 16
 #define SLIPGREASE_RECORD_BYTES 1136
+#define SLIPGREASE_DECRYPTION_RECORD_BYTES 1360
 #define SLIPGREASE_SHEET_1_BYTES 21
 #define SLIPGREASE_SHEET_2_BYTES 22
 
 /* So many blocks are taken in one call. */
 #define SLIPGREASE_BLOCKS_MAX 256
 
-/* A record is so many states of a block's size. */
+/* A record is so many states of a block's size, and that of a decryption so many. */
 #define SLIPGREASE_STATES 71
+#define SLIPGREASE_DECRYPTION_STATES 85
 
 /* What slipgrease_sort_reply answers. */
 #define SLIPGREASE_GO_ON 0
@@ -157,6 +159,9 @@ uint8_t slipgrease_record_plain(
  * A run ends with the ciphertext of slipgrease_encrypt, at every offset, with every step and any masks. That is form 0, and no
  * other is taken: form 1, in which early modules left Mask(o+14d) on the block, has retired. For what they stored there is
  * slipgrease_convert.
+ * A masked decryption is a run with the inverse boxes, which take and give the same masks in the same order. It ends with the
+ * plaintext of slipgrease_decrypt, again at every offset, with every step and any masks, so none of them need be those with which
+ * the block was encrypted. It has no form.
  */
 
 /*
@@ -204,6 +209,54 @@ uint8_t slipgrease_encrypt_masked(
  * Refusals: 2 SCHEDULE_LENGTH, 3 INPUT_LENGTH, 5 MASKS_LENGTH, 6 OFFSET_RANGE, 15 STEP_WRONG, 8 RECORD_LENGTH.
  */
 uint8_t slipgrease_record_masked(
+    const uint8_t *schedule, size_t schedule_len,
+    const uint8_t *input, size_t input_len,
+    const uint8_t *masks, size_t masks_len,
+    uint8_t offset, uint8_t step,
+    uint8_t *record_out, size_t record_len);
+
+/*
+ * Decrypts one block under the published masks, with step 1 by stored boxes; those of another step are worked out first.
+ * Reads schedule, 240 bytes, and input, 16 bytes. Writes output_out, 16 bytes.
+ * Refusals: 2 SCHEDULE_LENGTH, 3 INPUT_LENGTH, 4 OUTPUT_LENGTH, 6 OFFSET_RANGE, 15 STEP_WRONG.
+ */
+uint8_t slipgrease_decrypt_published(
+    const uint8_t *schedule, size_t schedule_len,
+    const uint8_t *input, size_t input_len,
+    uint8_t *output_out, size_t output_len,
+    uint8_t offset, uint8_t step);
+
+/*
+ * Decrypts one block under any sixteen masks, fit or not; their boxes are worked out first.
+ * Reads schedule, 240 bytes, input, 16 bytes, and masks, 16 bytes. Writes output_out, 16 bytes.
+ * Refusals: 2 SCHEDULE_LENGTH, 3 INPUT_LENGTH, 4 OUTPUT_LENGTH, 5 MASKS_LENGTH, 6 OFFSET_RANGE, 15 STEP_WRONG.
+ */
+uint8_t slipgrease_decrypt_masked(
+    const uint8_t *schedule, size_t schedule_len,
+    const uint8_t *input, size_t input_len,
+    uint8_t *output_out, size_t output_len,
+    const uint8_t *masks, size_t masks_len,
+    uint8_t offset, uint8_t step);
+
+/*
+ * Decrypts one block under any sixteen masks, and records the state at each of 85 points. State s is at byte 16 * s of the record.
+ *
+ *     state                    the plain state of INVCIPHER        xored with, at offset o with step d
+ *     0                        at the beginning: the block         Mask(o)
+ *     1                        after round key 14                  Mask(o)
+ *     6r + 2    r = 0 .. 13    after InvShiftRows                  InvShiftRows(Mask(o+dr))
+ *     6r + 3    r = 0 .. 13    the same (after correction)         Mask(o+dr)
+ *     6r + 4    r = 0 .. 13    after the inverse S-boxes           Mask(o+d(r+1))
+ *     6r + 5    r = 0 .. 13    after round key 13-r                Mask(o+d(r+1))
+ *     6r + 6    r = 0 .. 12    after InvMixColumns                 InvMixColumns(Mask(o+d(r+1)))
+ *     6r + 7    r = 0 .. 12    the same (after restoration)        Mask(o+d(r+1))
+ *     84                       the same: what decrypt writes       nothing
+ *
+ * With sixteen masks 00 these are the plain states. No other output block is written.
+ * Reads schedule, 240 bytes, input, 16 bytes, and masks, 16 bytes. Writes record_out, 1,360 bytes.
+ * Refusals: 2 SCHEDULE_LENGTH, 3 INPUT_LENGTH, 5 MASKS_LENGTH, 6 OFFSET_RANGE, 15 STEP_WRONG, 8 RECORD_LENGTH.
+ */
+uint8_t slipgrease_record_masked_decryption(
     const uint8_t *schedule, size_t schedule_len,
     const uint8_t *input, size_t input_len,
     const uint8_t *masks, size_t masks_len,

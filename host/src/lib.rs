@@ -22,6 +22,7 @@
 //! for offset in Offset::all() {
 //!     let in_the_module = schedule.encrypt_published(&block, offset, Step::ONE);
 //!     assert_eq!(in_the_module, at_the_rack);
+//!     assert_eq!(schedule.decrypt_published(&at_the_rack, offset, Step::ONE), block);
 //! }
 //! ```
 //!
@@ -40,10 +41,11 @@ mod schedule;
 mod slices;
 
 pub use crate::masks::{Masks, Offset, Step};
-pub use crate::record::{Point, Record, Stage};
+pub use crate::record::{Direction, Point, Record, Stage};
 pub use crate::refusal::{sort_reply, Fault, Refusal};
 pub use crate::schedule::{Block, Schedule};
 pub use crate::slices::{
-    convert, decrypt, encrypt, encrypt_blocks, encrypt_masked, encrypt_published, expand_key, fitness, inverse, logarithm,
-    masked_inverse, multiply, power, read_sheet, record_masked, record_plain, write_sheet,
+    convert, decrypt, decrypt_masked, decrypt_published, encrypt, encrypt_blocks, encrypt_masked, encrypt_published, expand_key,
+    fitness, inverse, logarithm, masked_inverse, multiply, power, read_sheet, record_masked, record_masked_decryption,
+    record_plain, write_sheet,
 };

@@ -17,7 +17,8 @@ use crate::slices;
 pub struct Masks([u8; 16]);
 
 impl Masks {
-    /// The masks that `encrypt_published` has, as the "Description of the masked AES of the DPA contest v4" prints them.
+    /// The masks that `encrypt_published` and `decrypt_published` have, as the "Description of the masked AES of the DPA contest v4"
+    /// prints them.
     pub const PUBLISHED: Masks =
         Masks([0x00, 0x0f, 0x36, 0x39, 0x53, 0x5c, 0x65, 0x6a, 0x95, 0x9a, 0xa3, 0xac, 0xc6, 0xc9, 0xf0, 0xff]);
 

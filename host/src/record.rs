@@ -1,34 +1,68 @@
-//! The 71 recorded states of a run, and the points at which they are taken.
+//! The recorded states of a run, and the points at which they are taken.
 
 use crate::masks::{Offset, Step};
 use crate::schedule::Block;
 use std::fmt;
 
-/// The 71 states of a run, 1,136 bytes.
+/// Which way a run goes.
+#[derive(Clone, Copy, Debug, PartialEq, Eq, Hash)]
+pub enum Direction {
+    /// From the plaintext to the ciphertext: 71 states.
+    Encryption,
+    /// From the ciphertext to the plaintext: 85 states.
+    Decryption,
+}
+
+impl Direction {
+    /// How many states a record has.
+    pub fn states(self) -> usize {
+        match self {
+            Direction::Encryption => 71,
+            Direction::Decryption => 85,
+        }
+    }
+
+    /// The points at which they are taken, in their order.
+    pub fn points(self) -> impl Iterator<Item = Point> {
+        (0..self.states()).map(move |number| Point { direction: self, number })
+    }
+}
+
+/// The states of a run, sixteen bytes for each.
 #[derive(Clone, PartialEq, Eq)]
-pub struct Record([u8; 1136]);
+pub struct Record {
+    direction: Direction,
+    bytes: Vec<u8>,
+}
 
 impl Record {
-    /// How many states there are.
-    pub const STATES: usize = 71;
-
-    pub(crate) fn new(bytes: [u8; 1136]) -> Record {
-        Record(bytes)
+    /// One that a run is still to write.
+    pub(crate) fn blank(direction: Direction) -> Record {
+        Record { direction, bytes: vec![0; 16 * direction.states()] }
     }
 
-    /// The states, one after the other.
-    pub fn as_bytes(&self) -> &[u8; 1136] {
-        &self.0
+    pub(crate) fn as_bytes_mut(&mut self) -> &mut [u8] {
+        &mut self.bytes
     }
 
-    /// State n, 0 to 70. There is none above, and it panics.
+    /// The states, one after the other: 1,136 bytes of an encryption, 1,360 of a decryption.
+    pub fn as_bytes(&self) -> &[u8] {
+        &self.bytes
+    }
+
+    /// Which way the run went.
+    pub fn direction(&self) -> Direction {
+        self.direction
+    }
+
+    /// State n, from 0 on. Where there is none, it panics.
     pub fn state(&self, n: usize) -> &Block {
-        self.0[16 * n..16 * n + 16].try_into().expect("sixteen bytes")
+        self.bytes[16 * n..16 * n + 16].try_into().expect("sixteen bytes")
     }
 
     /// All states with their points.
     pub fn states(&self) -> impl Iterator<Item = (Point, &Block)> {
-        Point::all().map(|point| (point, self.state(point.number())))
+        self.direction.points().map(|point| (point, self.state(point.number())))
     }
 }
 
@@ -38,7 +72,8 @@ impl fmt::Debug for Record {
     }
 }
 
-/// What has just been done at a point. A plain run has the same points: it covers, compensates and uncovers nothing.
+/// What has just been done at a point. A plain run has the same points: it covers, compensates, corrects, restores and uncovers
+/// nothing.
 #[derive(Clone, Copy, Debug, PartialEq, Eq, Hash)]
 pub enum Stage {
     /// The block is there, under its first mask.
@@ -53,79 +88,141 @@ pub enum Stage {
     MixColumns,
     /// The compensation was added.
     Compensation,
+    /// The rows were shifted back.
+    InvShiftRows,
+    /// The mask was corrected behind that.
+    Correction,
+    /// The inverse boxes were looked up.
+    InverseBoxes,
+    /// The columns were mixed back.
+    InvMixColumns,
+    /// The mask was restored behind that.
+    Restoration,
     /// The last mask was taken away.
     Uncovering,
 }
 
-/// One of the 71 points of a run.
+/// One of the points of a run.
 ///
 /// ```
-/// use slipgrease::{Offset, Point, Step};
+/// use slipgrease::{Direction, Offset, Point, Step};
 ///
-/// let points: Vec<Point> = Point::all().collect();
+/// let (offset, step) = (Offset::new(15).unwrap(), Step::new(5).unwrap());
+/// let points: Vec<Point> = Direction::Encryption.points().collect();
 /// assert_eq!(points.len(), 71);
 /// assert_eq!(points[4].to_string(), "MixColumns 0");
-/// assert_eq!(points[4].mask(Offset::new(15).unwrap(), Step::ONE), "MixColumns(ShiftRows(Mask(0)))");
-/// assert_eq!(points[4].mask(Offset::new(15).unwrap(), Step::new(5).unwrap()), "MixColumns(ShiftRows(Mask(4)))");
+/// assert_eq!(points[4].mask(offset, Step::ONE), "MixColumns(ShiftRows(Mask(0)))");
+/// assert_eq!(points[4].mask(offset, step), "MixColumns(ShiftRows(Mask(4)))");
 /// assert_eq!(points[69].to_string(), "key 14");
+///
+/// let points: Vec<Point> = Direction::Decryption.points().collect();
+/// assert_eq!(points.len(), 85);
+/// assert_eq!((points[1].to_string(), points[83].to_string()), ("key 14".to_string(), "key 0".to_string()));
+/// assert_eq!(points[6].to_string(), "InvMixColumns 0");
+/// assert_eq!(points[6].mask(offset, step), "InvMixColumns(Mask(4))");
 /// ```
 #[derive(Clone, Copy, Debug, PartialEq, Eq, Hash)]
-pub struct Point(usize);
+pub struct Point {
+    direction: Direction,
+    number: usize,
+}
 
 impl Point {
-    /// All points in their order.
-    pub fn all() -> impl Iterator<Item = Point> {
-        (0..Record::STATES).map(Point)
-    }
-
     /// Its place in the order, from 0 on.
     pub fn number(self) -> usize {
-        self.0
+        self.number
     }
 
-    /// The round that it belongs to, 0 to 13: five points to a round behind the covered block.
+    /// The round that it belongs to, 0 to 13: five points to a round behind the covered block, and in a decryption six behind the
+    /// first key.
     pub fn round(self) -> usize {
-        self.0.saturating_sub(1) / 5
+        match self.direction {
+            Direction::Encryption => self.number.saturating_sub(1) / 5,
+            Direction::Decryption => self.number.saturating_sub(2) / 6,
+        }
+    }
+
+    /// Whether its round begins with it.
+    pub fn begins_round(self) -> bool {
+        match self.direction {
+            Direction::Encryption => self.number % 5 == 1,
+            Direction::Decryption => self.number % 6 == 2,
+        }
     }
 
     /// What has just been done.
     pub fn stage(self) -> Stage {
-        match self.0 {
-            0 => Stage::Block,
-            69 => Stage::Key,
-            70 => Stage::Uncovering,
-            n => [Stage::Key, Stage::Boxes, Stage::ShiftRows, Stage::MixColumns, Stage::Compensation][(n - 1) % 5],
+        use Stage::*;
+        match (self.direction, self.number) {
+            (_, 0) => Block,
+            (Direction::Encryption, 69) | (Direction::Decryption, 1) => Key,
+            (Direction::Encryption, 70) | (Direction::Decryption, 84) => Uncovering,
+            (Direction::Encryption, n) => [Key, Boxes, ShiftRows, MixColumns, Compensation][(n - 1) % 5],
+            (Direction::Decryption, n) => [InvShiftRows, Correction, InverseBoxes, Key, InvMixColumns, Restoration][(n - 2) % 6],
+        }
+    }
+
+    /// The number of the round key that has just been added, if one has.
+    pub fn key(self) -> Option<usize> {
+        match (self.stage(), self.direction, self.number) {
+            (Stage::Key, Direction::Encryption, 69) | (Stage::Key, Direction::Decryption, 1) => Some(14),
+            (Stage::Key, Direction::Encryption, _) => Some(self.round()),
+            (Stage::Key, Direction::Decryption, _) => Some(13 - self.round()),
+            _ => None,
+        }
+    }
+
+    /// The name of what has just been done, and at the end of what has come of it.
+    pub fn name(self) -> &'static str {
+        match self.stage() {
+            Stage::Block => "block",
+            Stage::Key => "key",
+            Stage::Boxes => "boxes",
+            Stage::ShiftRows => "ShiftRows",
+            Stage::MixColumns => "MixColumns",
+            Stage::Compensation => "compensation",
+            Stage::InvShiftRows => "InvShiftRows",
+            Stage::Correction => "correction",
+            Stage::InverseBoxes => "inverse boxes",
+            Stage::InvMixColumns => "InvMixColumns",
+            Stage::Restoration => "restoration",
+            Stage::Uncovering => match self.direction {
+                Direction::Encryption => "ciphertext",
+                Direction::Decryption => "plaintext",
+            },
         }
     }
 
     /// The mask that lies over the state here in a masked run at an offset and a step, as the rules name it.
     pub fn mask(self, offset: Offset, step: Step) -> String {
         let label = |rounds: usize| (usize::from(offset.number()) + usize::from(step.number()) * rounds) % 16;
-        let (before, after) = (label(self.round()), label(self.round() + 1));
+        let [before, after] = [self.round(), self.round() + 1].map(|rounds| format!("Mask({})", label(rounds)));
         match self.stage() {
-            Stage::Key if self.0 == 69 => format!("ShiftRows(Mask({after}))"),
-            Stage::Block | Stage::Key => format!("Mask({before})"),
-            Stage::Boxes | Stage::Compensation => format!("Mask({after})"),
-            Stage::ShiftRows => format!("ShiftRows(Mask({after}))"),
-            Stage::MixColumns => format!("MixColumns(ShiftRows(Mask({after})))"),
+            Stage::Key => match (self.direction, self.number) {
+                (Direction::Encryption, 69) => format!("ShiftRows({after})"),
+                (Direction::Encryption, _) | (Direction::Decryption, 1) => before,
+                (Direction::Decryption, _) => after,
+            },
+            Stage::Block | Stage::Correction => before,
+            Stage::Boxes | Stage::Compensation | Stage::InverseBoxes | Stage::Restoration => after,
+            Stage::ShiftRows => format!("ShiftRows({after})"),
+            Stage::MixColumns => format!("MixColumns(ShiftRows({after}))"),
+            Stage::InvShiftRows => format!("InvShiftRows({before})"),
+            Stage::InvMixColumns => format!("InvMixColumns({after})"),
             Stage::Uncovering => "none".to_string(),
         }
     }
 }
 
+/// Its name, with the number of the round, or of the round key.
 impl fmt::Display for Point {
     fn fmt(&self, f: &mut fmt::Formatter) -> fmt::Result {
-        let round = self.round();
-        let name = match self.stage() {
-            Stage::Block => "block".to_string(),
-            Stage::Key if self.0 == 69 => "key 14".to_string(),
-            Stage::Key => format!("key {round}"),
-            Stage::Boxes => format!("boxes {round}"),
-            Stage::ShiftRows => format!("ShiftRows {round}"),
-            Stage::MixColumns => format!("MixColumns {round}"),
-            Stage::Compensation => format!("compensation {round}"),
-            Stage::Uncovering => "ciphertext".to_string(),
-        };
-        f.pad(&name)
+        match self.stage() {
+            Stage::Block | Stage::Uncovering => f.pad(self.name()),
+            _ => f.pad(&format!("{} {}", self.name(), self.key().unwrap_or(self.round()))),
+        }
     }
 }
+
+#[cfg(test)]
+mod tests;

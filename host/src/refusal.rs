@@ -31,7 +31,7 @@ pub enum Refusal {
     OffsetRange = 6,
     /// The form is not 0.
     FormUnknown = 7,
-    /// The record is not 1,136 bytes long.
+    /// The record is not 1,136 bytes long; of a decryption, not 1,360.
     RecordLength = 8,
     /// 00 has no logarithm.
     NoLogarithm = 9,
@@ -58,7 +58,7 @@ const REFUSALS: [(Refusal, &str, &str); 15] = [
     (Refusal::MasksLength, "MASKS_LENGTH", "the mask table is not 16 bytes long"),
     (Refusal::OffsetRange, "OFFSET_RANGE", "an offset is above 15"),
     (Refusal::FormUnknown, "FORM_UNKNOWN", "the form is not 0"),
-    (Refusal::RecordLength, "RECORD_LENGTH", "the record is not 1,136 bytes long"),
+    (Refusal::RecordLength, "RECORD_LENGTH", "the record is not 1,136 bytes long; of a decryption, not 1,360"),
     (Refusal::NoLogarithm, "NO_LOGARITHM", "00 has no logarithm"),
     (Refusal::PowerRange, "POWER_RANGE", "the power is above 254"),
     (Refusal::SheetLength, "SHEET_LENGTH", "the sheet is not 21 bytes long; in version 2, not 22"),

@@ -1,7 +1,7 @@
 //! A key schedule, and the runs with it that cannot be refused.
 
 use crate::masks::{Masks, Offset, Step};
-use crate::record::Record;
+use crate::record::{Direction, Record};
 use crate::refusal::Refusal;
 use crate::slices;
 use std::fmt;
@@ -61,9 +61,9 @@ impl Schedule {
 
     /// The 71 states of a plain encryption.
     pub fn record(&self, block: &Block) -> Record {
-        let mut states = [0; 1136];
-        slices::record_plain(&self.0, block, &mut states).expect(FITS);
-        Record::new(states)
+        let mut record = Record::blank(Direction::Encryption);
+        slices::record_plain(&self.0, block, record.as_bytes_mut()).expect(FITS);
+        record
     }
 
     /// The block that a masked run with the published masks ends with: the one of [`encrypt`](Schedule::encrypt).
@@ -116,9 +116,51 @@ impl Schedule {
     /// assert_eq!(covered.state(70), &schedule.encrypt(&[2; 16]));
     /// ```
     pub fn record_masked(&self, block: &Block, masks: &Masks, offset: Offset, step: Step) -> Record {
-        let mut states = [0; 1136];
-        slices::record_masked(&self.0, block, masks.as_bytes(), offset.number(), step.number(), &mut states).expect(FITS);
-        Record::new(states)
+        let mut record = Record::blank(Direction::Encryption);
+        let (masks, states) = (masks.as_bytes(), record.as_bytes_mut());
+        slices::record_masked(&self.0, block, masks, offset.number(), step.number(), states).expect(FITS);
+        record
+    }
+
+    /// The block that a masked decryption with the published masks ends with: the one of [`decrypt`](Schedule::decrypt).
+    ///
+    /// ```
+    /// use slipgrease::{Offset, Schedule, Step};
+    ///
+    /// let schedule = Schedule::expand(&[1; 32]);
+    /// let made = schedule.encrypt_published(&[2; 16], Offset::new(3).unwrap(), Step::ONE);
+    /// let other_step = Step::new(5).unwrap();
+    /// assert_eq!(schedule.decrypt_published(&made, Offset::new(9).unwrap(), other_step), [2; 16]);
+    /// ```
+    pub fn decrypt_published(&self, block: &Block, offset: Offset, step: Step) -> Block {
+        let mut output = [0; 16];
+        slices::decrypt_published(&self.0, block, &mut output, offset.number(), step.number()).expect(FITS);
+        output
+    }
+
+    /// The block that a masked decryption with any sixteen masks ends with: the same one.
+    pub fn decrypt_masked(&self, block: &Block, masks: &Masks, offset: Offset, step: Step) -> Block {
+        let mut output = [0; 16];
+        slices::decrypt_masked(&self.0, block, &mut output, masks.as_bytes(), offset.number(), step.number()).expect(FITS);
+        output
+    }
+
+    /// The 85 states of a masked decryption.
+    ///
+    /// ```
+    /// use slipgrease::{Direction, Masks, Offset, Schedule, Step};
+    ///
+    /// let schedule = Schedule::expand(&[1; 32]);
+    /// let covered = schedule.record_masked_decryption(&[2; 16], &Masks::new([7; 16]), Offset::new(3).unwrap(), Step::ONE);
+    /// assert_eq!(covered.direction(), Direction::Decryption);
+    /// assert_eq!(covered.state(0), &[2 ^ 7; 16]);
+    /// assert_eq!(covered.state(84), &schedule.decrypt(&[2; 16]));
+    /// ```
+    pub fn record_masked_decryption(&self, block: &Block, masks: &Masks, offset: Offset, step: Step) -> Record {
+        let mut record = Record::blank(Direction::Decryption);
+        let (masks, states) = (masks.as_bytes(), record.as_bytes_mut());
+        slices::record_masked_decryption(&self.0, block, masks, offset.number(), step.number(), states).expect(FITS);
+        record
     }
 }
 
@@ -140,7 +182,22 @@ impl fmt::Debug for Schedule {
 #[cfg(test)]
 mod tests {
     use super::{Block, Schedule};
-    use crate::masks::{Offset, Step};
+    use crate::masks::{Masks, Offset, Step};
+
+    /// FIPS 197, C.3, under two mask tables.
+    #[test]
+    fn masked_runs_are_the_standard_s_both_ways() {
+        let schedule = Schedule::expand(&std::array::from_fn(|i| i as u8));
+        let plaintext = 0x00112233445566778899aabbccddeeff_u128.to_be_bytes();
+        let ciphertext = 0x8ea2b7ca516745bfeafc49904b496089_u128.to_be_bytes();
+        let others = Masks::new(plaintext);
+        for (offset, step) in Offset::all().flat_map(|offset| Step::all().map(move |step| (offset, step))) {
+            assert_eq!(schedule.encrypt_published(&plaintext, offset, step), ciphertext);
+            assert_eq!(schedule.encrypt_masked(&plaintext, &others, offset, step), ciphertext);
+            assert_eq!(schedule.decrypt_published(&ciphertext, offset, step), plaintext);
+            assert_eq!(schedule.decrypt_masked(&ciphertext, &others, offset, step), plaintext);
+        }
+    }
 
     /// Around the 256 blocks of a call, each block is what a call of its own gives.
     #[test]

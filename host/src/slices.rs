@@ -2,6 +2,10 @@
 //!
 //! Buffers that are written share no byte with others, which Rust sees to.
 
+mod masked;
+
+pub use masked::*;
+
 use crate::calls;
 use crate::refusal::Refusal;
 
@@ -60,112 +64,6 @@ pub fn decrypt(schedule: &[u8], input: &[u8], output: &mut [u8]) -> Result<(), R
 /// ```
 pub fn record_plain(schedule: &[u8], input: &[u8], states: &mut [u8]) -> Result<(), Refusal> {
     Refusal::check(calls::record_plain(schedule, input, states))
-}
-
-/// Writes the block that a masked run with the published masks ends with: what [`encrypt`] writes, at every offset and with every
-/// step, which is how far the labels of the masks advance in a round.
-///
-/// Refused, in this order: schedule not 240 bytes, input not 16, output not 16, offset above 15, step 0, 2, 3 or above 15, form
-/// not 0. The form is there for callers that still name it: form 1 has retired, and [`convert`] is for what was stored in it.
-///
-/// ```
-/// use slipgrease::Refusal;
-///
-/// let (mut plain, mut masked) = ([0; 16], [0; 16]);
-/// slipgrease::encrypt(&[3; 240], &[5; 16], &mut plain)?;
-/// slipgrease::encrypt_published(&[3; 240], &[5; 16], &mut masked, 11, 1, 0)?;
-/// assert_eq!(masked, plain);
-/// slipgrease::encrypt_published(&[3; 240], &[5; 16], &mut masked, 11, 5, 0)?;
-/// assert_eq!(masked, plain);
-/// let refused = slipgrease::encrypt_published(&[3; 240], &[5; 16], &mut masked, 11, 5, 1);
-/// assert_eq!(refused, Err(Refusal::FormUnknown));
-/// # Ok::<(), slipgrease::Refusal>(())
-/// ```
-pub fn encrypt_published(
-    schedule: &[u8],
-    input: &[u8],
-    output: &mut [u8],
-    offset: u8,
-    step: u8,
-    form: u8,
-) -> Result<(), Refusal> {
-    Refusal::check(calls::encrypt_published(schedule, input, output, offset, step, form))
-}
-
-/// Writes for each of up to 256 blocks what [`encrypt_published`] would, at an offset of its own and one step for all.
-///
-/// Refused, in this order: schedule not 240 bytes, input not 16 for each of 256 blocks at most, output not as long as the input, not
-/// one offset for each block, any offset above 15, step 0, 2, 3 or above 15, form not 0. A call without blocks is done.
-///
-/// ```
-/// use slipgrease::Refusal;
-///
-/// let (mut plain, mut masked) = ([0; 16], [0; 48]);
-/// slipgrease::encrypt(&[3; 240], &[5; 16], &mut plain)?;
-/// slipgrease::encrypt_blocks(&[3; 240], &[5; 48], &mut masked, &[11, 0, 15], 1, 0)?;
-/// assert_eq!(masked[..], plain.repeat(3));
-///
-/// let mut untouched = [0x55; 48];
-/// let refused = slipgrease::encrypt_blocks(&[3; 240], &[5; 48], &mut untouched, &[11, 0, 16], 1, 0);
-/// assert_eq!((refused, untouched), (Err(Refusal::OffsetRange), [0x55; 48]));
-/// # Ok::<(), slipgrease::Refusal>(())
-/// ```
-pub fn encrypt_blocks(
-    schedule: &[u8],
-    input: &[u8],
-    output: &mut [u8],
-    offsets: &[u8],
-    step: u8,
-    form: u8,
-) -> Result<(), Refusal> {
-    Refusal::check(calls::encrypt_blocks(schedule, input, output, offsets, step, form))
-}
-
-/// What [`encrypt_published`] writes, with any sixteen masks.
-///
-/// Refused, in this order: schedule not 240 bytes, input not 16, output not 16, masks not 16, offset above 15, step 0, 2, 3 or
-/// above 15, form not 0.
-///
-/// ```
-/// let (mut plain, mut masked) = ([0; 16], [0; 16]);
-/// slipgrease::encrypt(&[3; 240], &[5; 16], &mut plain)?;
-/// slipgrease::encrypt_masked(&[3; 240], &[5; 16], &mut masked, &[0xc4; 16], 11, 5, 0)?;
-/// assert_eq!(masked, plain);
-/// # Ok::<(), slipgrease::Refusal>(())
-/// ```
-pub fn encrypt_masked(
-    schedule: &[u8],
-    input: &[u8],
-    output: &mut [u8],
-    masks: &[u8],
-    offset: u8,
-    step: u8,
-    form: u8,
-) -> Result<(), Refusal> {
-    Refusal::check(calls::encrypt_masked(schedule, input, output, masks, offset, step, form))
-}
-
-/// Writes the 71 states of a masked run, 1,136 bytes.
-///
-/// Refused, in this order: schedule not 240 bytes, input not 16, masks not 16, offset above 15, step 0, 2, 3 or above 15, record
-/// not 1,136.
-///
-/// ```
-/// let (mut plain, mut covered) = ([0; 1136], [0; 1136]);
-/// slipgrease::record_plain(&[3; 240], &[5; 16], &mut plain)?;
-/// slipgrease::record_masked(&[3; 240], &[5; 16], &[0; 16], 11, 5, &mut covered)?;
-/// assert_eq!(covered, plain, "sixteen masks 00 cover nothing");
-/// # Ok::<(), slipgrease::Refusal>(())
-/// ```
-pub fn record_masked(
-    schedule: &[u8],
-    input: &[u8],
-    masks: &[u8],
-    offset: u8,
-    step: u8,
-    states: &mut [u8],
-) -> Result<(), Refusal> {
-    Refusal::check(calls::record_masked(schedule, input, masks, offset, step, states))
 }
 
 /// Writes the sixteen masks of a sheet and gives its step: in version 2 the last byte, and 1 for version 1, which has none.
@@ -283,28 +181,4 @@ pub fn masked_inverse(x: u8, r: u8) -> u8 {
 fn valued(both: u16) -> Result<u8, Refusal> {
     let [number, value] = both.to_be_bytes();
     Refusal::check(number).map(|()| value)
-}
-
-#[cfg(test)]
-mod tests {
-    use super::{encrypt_blocks, encrypt_masked, encrypt_published};
-    use crate::refusal::Refusal;
-
-    /// Form 1 has retired, and is refused like those that never were.
-    #[test]
-    fn form_0_alone_is_taken() {
-        let (schedule, block, masks) = ([3; 240], [5; 16], [7; 16]);
-        for form in 0..=255 {
-            let mut outputs = [[0x55; 16]; 3];
-            let [published, many, masked] = &mut outputs;
-            let replies = [
-                encrypt_published(&schedule, &block, published, 11, 5, form),
-                encrypt_blocks(&schedule, &block, many, &[11], 5, form),
-                encrypt_masked(&schedule, &block, masked, &masks, 11, 5, form),
-            ];
-            let expected = if form == 0 { Ok(()) } else { Err(Refusal::FormUnknown) };
-            assert_eq!(replies, [expected; 3], "form {form}");
-            assert_eq!(outputs.map(|output| output == [0x55; 16]), [form != 0; 3], "form {form}");
-        }
-    }
 }

@@ -1,78 +1,24 @@
 /*
  * Every call of the header as a C compiler makes it, with answers of FIPS 197 and of the rules of the masks, and a null pointer
- * of length 0 in the place of each buffer. How the calls answer in general is for the proofs and the second program.
+ * of length 0 in the place of each buffer. How the calls answer in general is for the proofs and the second program. Masked
+ * decryption is in decryption.c.
  *
  * Usage: calls [NAME]. What is expected of the call NAME, which goes without slipgrease_, is spoiled: it must be found to differ.
  * Prints a line for each difference, and fails if there is any.
  */
-#include <slipgrease.h>
+#include "expect.h"
 
-#include <stdio.h>
 #include <string.h>
 
-/* A buffer and its length, and none. */
-#define LENT(buffer) buffer, sizeof buffer
-#define NONE NULL, 0
-
-/* A call and the number that it should answer; and one that should answer a reply and a value in one number. */
-#define CALL(call, expected, ...) number(#call, slipgrease_##call(__VA_ARGS__), expected)
-#define PACKED(call, reply, value, ...) packed(#call, slipgrease_##call(__VA_ARGS__), reply, value)
-
-static const char *spoiled = "";
-static int faults;
-
-static void number(const char *call, unsigned given, unsigned expected)
-{
-    if (strcmp(call, spoiled) == 0)
-        expected++;
-    if (given != expected) {
-        printf("%s: %u, and should be %u\n", call, given, expected);
-        faults = 1;
-    }
-}
-
-static void packed(const char *call, uint16_t given, unsigned reply, unsigned value)
-{
-    number(call, SLIPGREASE_NUMBER(given), reply);
-    number(call, SLIPGREASE_VALUE(given), value);
-}
-
-/* Sixteen bytes, which should have these hex digits. */
-static void block(const char *call, const uint8_t *given, const char *expected)
-{
-    char digits[33];
-    for (int i = 0; i < 16; i++)
-        sprintf(digits + 2 * i, "%02x", given[i]);
-    if (strcmp(call, spoiled) == 0)
-        expected = "spoiled";
-    if (strcmp(digits, expected) != 0) {
-        printf("%s: %s, and should be %s\n", call, digits, expected);
-        faults = 1;
-    }
-}
-
-/* FIPS 197, C.3, and the published masks. At offset o byte i of the block is covered by M(o + i), and of what early modules stored
-   in form 1 by M(o + 14 + i); o is 5 where nothing else is said. */
-static const char plaintext[] = "00112233445566778899aabbccddeeff";
-static const char ciphertext[] = "8ea2b7ca516745bfeafc49904b496089";
+/* At offset o byte i of the block is covered by M(o + i), and of what early modules stored in form 1 by M(o + 14 + i); o is 5
+   where nothing else is said. */
 static const char covered[] = "5c7448a6def6cab1416955bbc3ebd7ac";
 static const char form_1[] = "b7f1ebaf3bf2df1c463a8060b4496fbf";
 static const char form_1_at_7[] = "d2c7dd5fcbc4e979230cb690447f59da";
-static const uint8_t masks[SLIPGREASE_MASKS_BYTES] = {
-    0x00, 0x0f, 0x36, 0x39, 0x53, 0x5c, 0x65, 0x6a, 0x95, 0x9a, 0xa3, 0xac, 0xc6, 0xc9, 0xf0, 0xff};
 static const uint8_t rising[SLIPGREASE_MASKS_BYTES] = {0, 1, 2, 3, 4, 5, 6, 7, 8, 9, 10, 11, 12, 13, 14, 15};
 
-static uint8_t key[SLIPGREASE_KEY_BYTES], w[SLIPGREASE_SCHEDULE_BYTES], in[SLIPGREASE_BLOCK_BYTES], out[SLIPGREASE_BLOCK_BYTES];
+static uint8_t key[SLIPGREASE_KEY_BYTES], in[SLIPGREASE_BLOCK_BYTES], out[SLIPGREASE_BLOCK_BYTES];
 static uint8_t record[SLIPGREASE_RECORD_BYTES], table[SLIPGREASE_MASKS_BYTES];
-
-/* Sixteen bytes under Mask(label), which uncovered should have these hex digits. */
-static void under(const char *call, const uint8_t *given, size_t label, const char *expected)
-{
-    uint8_t bare[16];
-    for (size_t i = 0; i < 16; i++)
-        bare[i] = given[i] ^ masks[(label + i) % 16];
-    block(call, bare, expected);
-}
 
 static void rack(void)
 {
@@ -172,9 +118,7 @@ static void steps(void)
 {
     static const uint8_t five[] = {5};
     for (int i = 0; i < 256; i++) {
-        uint8_t d = (uint8_t)i, reply = SLIPGREASE_REPLY_DONE;
-        if (d == 0 || d == 2 || d == 3 || d > 15)
-            reply = SLIPGREASE_REPLY_STEP_WRONG;
+        uint8_t d = (uint8_t)i, reply = reply_to_step(d);
         memset(out, 0, sizeof out);
         memset(table, 0, sizeof table);
         CALL(encrypt_published, reply, LENT(w), LENT(in), LENT(out), 5, d, 0);
@@ -291,6 +235,7 @@ int main(int count, char **words)
     rack();
     module();
     steps();
+    decryption();
     forms();
     sheets();
     beside();

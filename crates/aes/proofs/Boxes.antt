@@ -8,7 +8,7 @@ use lib.ListN.{getD}
 use Rattle.aes.specs.Byte.{fromBits, table, place}
 use Rattle.aes.specs.Field.{inverse}
 use Rattle.aes.specs.Box.{affine, sBox, invSBox}
-use Rattle.aes.proofs.Listed.{table-same, agree}
+use Rattle.aes.proofs.Listed.{Inverted, table-same, agree, place-below}
 use Rattle.aes.proofs.Powers.{powers, powers-at, logarithm-is}
 use Rattle.aes.proofs.Inverses.{inverse-byte, inverse-zero, inverse-by-logarithm}
 
@@ -44,3 +44,15 @@ affine-fits = agree (λ b. affine b / 256) (λ b. 0) 256 refl
 pub sBox-byte : (b : ℕ) → b < 256 → sBox b < 256
 unfolding sBox
 sBox-byte b h = omega (arith, affine-fits (inverse b) (inverse-byte b h))
+
+-- the test over all 256 entries: each byte stands in the box, and once
+test : Inverted (λ b. b) 256 boxes
+unfolding boxes
+test = (refl, refl, refl)
+
+pub inverted : Inverted (λ b. b) 256 (table sBox 256)
+inverted = rw boxes-are test
+
+pub invSBox-byte : (b : ℕ) → b < 256 → invSBox b < 256
+unfolding invSBox
+invSBox-byte = place-below sBox (λ b. b) 256 inverted

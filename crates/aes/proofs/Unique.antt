@@ -14,6 +14,8 @@ use Rattle.aes.proofs.field.power.Reads as power
 use Rattle.aes.proofs.key.expand_key.Reads as expand-key
 use Rattle.aes.proofs.record.record_plain.Reads as record-plain
 use Rattle.aes.proofs.state.add.Reads as add
+use Rattle.aes.proofs.state.inv_mix_columns.Reads as inv-mix-columns
+use Rattle.aes.proofs.state.inv_shift_rows.Reads as inv-shift-rows
 use Rattle.aes.proofs.state.mix_columns.Reads as mix-columns
 use Rattle.aes.proofs.state.shift_rows.Reads as shift-rows
 use Rattle.aes.proofs.tables.entry.Reads as entry
@@ -92,6 +94,12 @@ shift-rows-unique κs args exit x y p q = p ∙ sym q
 
 pub mix-columns-unique : Unique mix-columns.Post
 mix-columns-unique κs args exit x y p q = p ∙ sym q
+
+pub inv-shift-rows-unique : Unique inv-shift-rows.Post
+inv-shift-rows-unique κs args exit x y p q = p ∙ sym q
+
+pub inv-mix-columns-unique : Unique inv-mix-columns.Post
+inv-mix-columns-unique κs args exit x y p q = p ∙ sym q
 
 pub round-constants-unique : Unique round-constants.Post
 round-constants-unique κs args exit x y p q = p ∙ sym q

@@ -16,18 +16,18 @@ use Rattle.aes.proofs.Part.{holds-none, holds-all, lent, back}
 abbrev pub Sized : {P : Type 0} → (P → List ℕ → List ℕ) → Type 0
 Sized {P} f = (p : P) (s : List ℕ) → length s ≡ 16 → length (f p s) ≡ 16
 
-module _ (f : Point → List ℕ → List ℕ) where
-  pub run-append : (ps qs : List Point) (s : List ℕ) → run f s (ps ++ qs) ≡ run f s ps ++ run f (last s (run f s ps)) qs
+module _ {P : Type 0} (f : P → List ℕ → List ℕ) where
+  pub run-append : (ps qs : List P) (s : List ℕ) → run f s (ps ++ qs) ≡ run f s ps ++ run f (last s (run f s ps)) qs
   unfolding run last
   run-append [] qs s = refl
   run-append (p ∷ ps) qs s = ap (λ (u : List (List ℕ)). f p s ∷ u) (run-append ps qs (f p s))
 
-  pub last-size : Sized f → (ps : List Point) (s : List ℕ) → length s ≡ 16 → length (last s (run f s ps)) ≡ 16
+  pub last-size : Sized f → (ps : List P) (s : List ℕ) → length s ≡ 16 → length (last s (run f s ps)) ≡ 16
   unfolding run last
   last-size h [] s l = l
   last-size h (p ∷ ps) s l = last-size h ps (f p s) (h p s l)
 
-  pub run-size : Sized f → (ps : List Point) (s : List ℕ) → length s ≡ 16 → length (bytes (run f s ps)) ≡ 16 * length ps
+  pub run-size : Sized f → (ps : List P) (s : List ℕ) → length s ≡ 16 → length (bytes (run f s ps)) ≡ 16 * length ps
   unfolding run bytes
   run-size h [] s l = refl
   run-size h (p ∷ ps) s l = simp (length-append, h p s l, run-size h ps (f p s) (h p s l)) (omega arith)
@@ -43,21 +43,21 @@ last-append s [] v = refl
 last-append s (t ∷ u) v = last-append t u v
 
 -- xs, of n bytes, begins with the states at the points ps of a run from s, and t is the last of them
-pub record Written (f : Point → List ℕ → List ℕ) (s : List ℕ) (n : ℕ) (ps : List Point) (t xs : List ℕ) : Type 0 where
+pub record Written {P : Type 0} (f : P → List ℕ → List ℕ) (s : List ℕ) (n : ℕ) (ps : List P) (t xs : List ℕ) : Type 0 where
   pub state : t ≡ last s (run f s ps)
   pub held : Holds n (bytes (run f s ps)) xs
 
-pub written-none : (f : Point → List ℕ → List ℕ) (s : List ℕ) (n : ℕ) (xs : List ℕ) → length xs ≡ n → Written f s n [] s xs
+pub written-none : {P : Type 0} (f : P → List ℕ → List ℕ) (s : List ℕ) (n : ℕ) (xs : List ℕ) → length xs ≡ n → Written f s n [] s xs
 unfolding run last bytes
 written-none f s n xs l = record { state = refl; held = holds-none n xs l }
 
-pub recorded-one : {f : Point → List ℕ → List ℕ} {t t′ ys : List ℕ} {p : Point} → t′ ≡ f p t → ys ≡ t′ → Recorded f t (p ∷ []) t′ ys
+pub recorded-one : {P : Type 0} {f : P → List ℕ → List ℕ} {t t′ ys : List ℕ} {p : P} → t′ ≡ f p t → ys ≡ t′ → Recorded f t (p ∷ []) t′ ys
 unfolding run last bytes
 recorded-one et ey = record { end = et; held = ey ∙ et ∙ sym (append-nil _) }
 
-module _ {f : Point → List ℕ → List ℕ} (h : Sized f) {s : List ℕ} (l : length s ≡ 16) where
+module _ {P : Type 0} {f : P → List ℕ → List ℕ} (h : Sized f) {s : List ℕ} (l : length s ≡ 16) where
   -- the part from a to e is lent for the points qs
-  pub written-more : {n : ℕ} {ps : List Point} {t xs : List ℕ} → Written f s n ps t xs → (qs : List Point) (a e : ℕ) {t′ ys : List ℕ}
+  pub written-more : {n : ℕ} {ps : List P} {t xs : List ℕ} → Written f s n ps t xs → (qs : List P) (a e : ℕ) {t′ ys : List ℕ}
       → 16 * length ps ≡ a → 16 * length qs ≡ e - a → a ≤ e → e ≤ n → Recorded f t qs t′ ys → Written f s n (ps ++ qs) t′ (back xs a (e - a) ys)
   written-more {n} {ps} {t} {xs} w qs a e {t′} {ys} ha he le ln r =
       let lt : length t ≡ 16 = rw (w .state) (last-size f h ps s l) in
@@ -69,11 +69,11 @@ module _ {f : Point → List ℕ → List ℕ} (h : Sized f) {s : List ℕ} (l :
       }
 
   -- the part is lent for one point
-  pub written-step : {n : ℕ} {ps : List Point} {t xs : List ℕ} → Written f s n ps t xs → (p : Point) (a e : ℕ) {t′ ys : List ℕ}
+  pub written-step : {n : ℕ} {ps : List P} {t xs : List ℕ} → Written f s n ps t xs → (p : P) (a e : ℕ) {t′ ys : List ℕ}
       → 16 * length ps ≡ a → 16 ≡ e - a → a ≤ e → e ≤ n → t′ ≡ f p t → ys ≡ t′ → Written f s n (ps ++ (p ∷ [])) t′ (back xs a (e - a) ys)
   written-step w p a e ha he le ln et ey = written-more w (p ∷ []) a e ha he le ln (recorded-one et ey)
 
-  pub written-all : {n : ℕ} {ps : List Point} {t xs : List ℕ} → Written f s n ps t xs → 16 * length ps ≡ n → Recorded f s ps t xs
+  pub written-all : {n : ℕ} {ps : List P} {t xs : List ℕ} → Written f s n ps t xs → 16 * length ps ≡ n → Recorded f s ps t xs
   written-all {n} {ps} {t} {xs} w e =
       record { end = w .state; held = holds-all n (bytes (run f s ps)) xs (w .held) (run-size f h ps s l ∙ e) }
 
@@ -89,36 +89,39 @@ written-five {f} h s l xs room p q r u v e1 k1 e2 k2 e3 k3 e4 k4 e5 k5 =
     let h4 = written-step h l h3 u 48 64 refl refl (lit≤ tt) (lit≤ tt) e4 k4 in
     written-all h l (written-step h l h4 v 64 80 refl refl (lit≤ tt) (lit≤ tt) e5 k5) refl
 
--- the points of n turns, and how many bytes they take with the block where each takes k
-abbrev pub turns : (ℕ → List Point) → ℕ → List Point
+-- the points of n turns, and how many bytes they take behind a first point where each takes k
+abbrev pub turns : {P : Type 0} → (ℕ → List P) → ℕ → List P
 turns ps zero = []
 turns ps (suc n) = turns ps n ++ ps n
 
-turns-more : (ps : ℕ → List Point) (n : ℕ) → turns ps (n + 1) ≡ turns ps n ++ ps n
+turns-more : {P : Type 0} (ps : ℕ → List P) (n : ℕ) → turns ps (n + 1) ≡ turns ps n ++ ps n
 turns-more ps n = rw add-one
 
-turns-length : (ps : ℕ → List Point) (k : ℕ) → ((i : ℕ) → 16 * length (ps i) ≡ k) → (n : ℕ) → 16 * length (block ∷ turns ps n) ≡ k * n + 16
-turns-length ps k e zero = rw mul-zero
-turns-length ps k e (suc n) = simp (length-append, mul-suc) (omega (arith, turns-length ps k e n, e n))
+pub turns-length : {P : Type 0} (b : P) (ps : ℕ → List P) (k : ℕ) → ((i : ℕ) → 16 * length (ps i) ≡ k) → (n : ℕ) → 16 * length (b ∷ turns ps n) ≡ k * n + 16
+turns-length b ps k e zero = rw mul-zero
+turns-length b ps k e (suc n) = simp (length-append, mul-suc) (omega (arith, turns-length b ps k e n, e n))
 
 pub rounds-all : block ∷ turns five 14 ≡ points 14
 unfolding points wholes
 rounds-all = refl
 
-module _ {f : Point → List ℕ → List ℕ} (h : Sized f) {s : List ℕ} (l : length s ≡ 16) where
-  -- the block, a turn more in the k bytes behind what is written, and all points gone through after m turns
-  pub written-block : {t ys : List ℕ} (xs : List ℕ) → length xs ≡ 1136 → t ≡ f block s → ys ≡ t → Written f s 1136 (block ∷ []) t (back xs 0 16 ys)
-  written-block xs room et ey = written-step h l (written-none f s 1136 xs room) block 0 16 refl refl (lit≤ tt) (lit≤ tt) et ey
+pub rounds-bytes : 16 * length (points 14) ≡ 1136
+unfolding points wholes
+rounds-bytes = refl
 
-  pub written-turn : (ps : ℕ → List Point) (k : ℕ) → ((i : ℕ) → 16 * length (ps i) ≡ k) → {t t′ xs ys : List ℕ} (n : ℕ) → k * n + 16 + k ≤ 1136
-      → Written f s 1136 (block ∷ turns ps n) t xs → Recorded f t (ps n) t′ ys
-      → Written f s 1136 (block ∷ turns ps (n + 1)) t′ (back xs (k * n + 16) (k * n + 16 + k - (k * n + 16)) ys)
+module _ {P : Type 0} {f : P → List ℕ → List ℕ} (h : Sized f) {s : List ℕ} (l : length s ≡ 16) (b : P) {size : ℕ} where
+  -- the first point, a turn more in the k bytes behind what is written, and all points gone through after m turns
+  pub written-first : {t ys : List ℕ} (xs : List ℕ) → 16 ≤ size → length xs ≡ size → t ≡ f b s → ys ≡ t → Written f s size (b ∷ []) t (back xs 0 16 ys)
+  written-first xs le room et ey = written-step h l (written-none f s size xs room) b 0 16 refl refl (lit≤ tt) le et ey
+
+  pub written-turn : (ps : ℕ → List P) (k : ℕ) → ((i : ℕ) → 16 * length (ps i) ≡ k) → {t t′ xs ys : List ℕ} (n : ℕ) → k * n + 16 + k ≤ size
+      → Written f s size (b ∷ turns ps n) t xs → Recorded f t (ps n) t′ ys
+      → Written f s size (b ∷ turns ps (n + 1)) t′ (back xs (k * n + 16) (k * n + 16 + k - (k * n + 16)) ys)
   written-turn ps k e n le w d =
-      rw turns-more (written-more h l w (ps n) (k * n + 16) (k * n + 16 + k) (turns-length ps k e n) (e n ∙ omega arith) (omega arith) le d)
+      rw turns-more (written-more h l w (ps n) (k * n + 16) (k * n + 16 + k) (turns-length b ps k e n) (e n ∙ omega arith) (omega arith) le d)
 
-  pub written-whole : (ps : ℕ → List Point) (m : ℕ) → block ∷ turns ps m ≡ points 14 → {t xs : List ℕ} (n : ℕ) → n ≤ m → m ≤ n
-      → Written f s 1136 (block ∷ turns ps n) t xs → xs ≡ bytes (run f s (points 14))
-  unfolding points wholes
-  written-whole ps m all n le ge w =
+  pub written-whole : (ps : ℕ → List P) (m : ℕ) (qs : List P) → b ∷ turns ps m ≡ qs → 16 * length qs ≡ size → {t xs : List ℕ} (n : ℕ) → n ≤ m → m ≤ n
+      → Written f s size (b ∷ turns ps n) t xs → xs ≡ bytes (run f s qs)
+  written-whole ps m qs all total n le ge w =
       let e : n ≡ m = omega (arith, le, ge) in
-      written-all h l (rw (e, all) at w) refl .held
+      written-all h l (rw (e, all) at w) total .held

@@ -63,7 +63,7 @@ unfoldable pub plainRecord : ℕ → List ℕ → List ℕ → List (List ℕ)
 plainRecord nr w input = run (plain w) input (points nr)
 
 -- a run from s through the points ps ends in t and has left its states in xs, one after the other
-pub record Recorded (f : Point → List ℕ → List ℕ) (s : List ℕ) (ps : List Point) (t xs : List ℕ) : Type 0 where
+pub record Recorded {P : Type 0} (f : P → List ℕ → List ℕ) (s : List ℕ) (ps : List P) (t xs : List ℕ) : Type 0 where
   pub end : t ≡ last s (run f s ps)
   pub held : xs ≡ bytes (run f s ps)
 

@@ -11,13 +11,13 @@ ghost use Rattle.aes.specs.Calls.{blockOf, encryptOf, decryptOf};
 use crate::reply;
 use crate::state::add;
 use crate::state::block;
-use crate::state::inv_mix_columns;
 use crate::state::inv_shift_rows;
 use crate::state::mix_columns;
 use crate::state::put;
 use crate::state::round_key;
 use crate::state::shift_rows;
 use crate::state::substitute;
+use crate::state::unmixed;
 use crate::tables;
 
 // Writes what CIPHER makes of the block under the schedule.
@@ -100,7 +100,7 @@ fn inv_round(s: [u8; 16], w: &[u8], r: usize, inv_sbox: &[u8; 256]) -> [u8; 16]
     ensures { λ t. ⌜ t ≡ invMixColumns (addRoundKey (invSubBytes (invShiftRows s)) (roundKey (now (w .entry)) r)) ⌝ }
 {
     let t = add(inv_shift_sub(s, inv_sbox), round_key(w, r));
-    inv_mix_columns(t)
+    unmixed(t)
 }
 
 // What whole rounds and the last one share, in each direction.

@@ -4,6 +4,8 @@ use mathlib.Core.Path.{sym, _∙_}
 use Rattle.aes.proofs.Unique.{Unique, UniqueWriting, both}
 use Rattle.face.proofs.slipgrease_convert.Reads as convert
 use Rattle.face.proofs.slipgrease_decrypt.Reads as decrypt
+use Rattle.face.proofs.slipgrease_decrypt_masked.Reads as decrypt-masked
+use Rattle.face.proofs.slipgrease_decrypt_published.Reads as decrypt-published
 use Rattle.face.proofs.slipgrease_encrypt.Reads as encrypt
 use Rattle.face.proofs.slipgrease_encrypt_blocks.Reads as encrypt-blocks
 use Rattle.face.proofs.slipgrease_encrypt_masked.Reads as encrypt-masked
@@ -17,6 +19,7 @@ use Rattle.face.proofs.slipgrease_multiply.Reads as multiply
 use Rattle.face.proofs.slipgrease_power.Reads as power
 use Rattle.face.proofs.slipgrease_read_sheet.Reads as read-sheet
 use Rattle.face.proofs.slipgrease_record_masked.Reads as record-masked
+use Rattle.face.proofs.slipgrease_record_masked_decryption.Reads as record-masked-decryption
 use Rattle.face.proofs.slipgrease_record_plain.Reads as record-plain
 use Rattle.face.proofs.slipgrease_sort_reply.Reads as sort-reply
 use Rattle.face.proofs.slipgrease_write_sheet.Reads as write-sheet
@@ -54,8 +57,17 @@ encrypt-blocks-unique κs args e f x y p q = both x y _ _ _ p q
 pub encrypt-masked-unique : UniqueWriting encrypt-masked.Post (λ κs e. e .1 .1 .0 .now)
 encrypt-masked-unique κs args e f x y p q = both x y _ _ _ p q
 
+pub decrypt-published-unique : UniqueWriting decrypt-published.Post (λ κs e. e .1 .1 .0 .now)
+decrypt-published-unique κs args e f x y p q = both x y _ _ _ p q
+
+pub decrypt-masked-unique : UniqueWriting decrypt-masked.Post (λ κs e. e .1 .1 .0 .now)
+decrypt-masked-unique κs args e f x y p q = both x y _ _ _ p q
+
 pub record-masked-unique : UniqueWriting record-masked.Post (λ κs e. e .1 .1 .1 .1 .1 .0 .now)
 record-masked-unique κs args e f x y p q = both x y _ _ _ p q
+
+pub record-masked-decryption-unique : UniqueWriting record-masked-decryption.Post (λ κs e. e .1 .1 .1 .1 .1 .0 .now)
+record-masked-decryption-unique κs args e f x y p q = both x y _ _ _ p q
 
 pub masked-inverse-unique : Unique masked-inverse.Post
 masked-inverse-unique κs args exit x y p q = p ∙ sym q

@@ -3,7 +3,7 @@
 ghost use mathlib.Core.Path.{_≡_};
 ghost use Rattle.aes.specs.Field.{_•_, inverse};
 ghost use Rattle.aes.specs.Calls.{expandKeyOf, encryptOf, decryptOf, recordPlainOf, powerOf, logarithmOf};
-ghost use Rattle.masked.specs.Calls.{encryptPublishedOf, encryptBlocksOf, encryptMaskedOf, recordMaskedOf};
+ghost use Rattle.masked.specs.Calls.{encryptPublishedOf, encryptBlocksOf, encryptMaskedOf, recordMaskedOf, decryptPublishedOf, decryptMaskedOf, recordMaskedDecryptionOf};
 ghost use Rattle.masks.specs.Sheet.{readSheetOf, writeSheetOf};
 ghost use Rattle.beside.specs.Fitness.{fitnessOf};
 ghost use Rattle.beside.specs.Inversion.{maskedInverse};
@@ -96,6 +96,47 @@ pub extern "C" fn slipgrease_record_masked(
     ensures { λ r. ⌜ (r, now (states .exit)) ≡ recordMaskedOf (now (schedule .entry)) (now (input .entry)) (now (masks .entry)) offset step (now (states .entry)) ⌝ }
 {
     masked::record_masked(schedule, input, masks, offset, step, states)
+}
+
+#[no_mangle]
+pub extern "C" fn slipgrease_decrypt_published(
+    schedule: &[u8],
+    input: &[u8],
+    output: &mut [u8],
+    offset: u8,
+    step: u8,
+) -> u8
+    ensures { λ r. ⌜ (r, now (output .exit)) ≡ decryptPublishedOf (now (schedule .entry)) (now (input .entry)) (now (output .entry)) offset step ⌝ }
+{
+    masked::decrypt_published(schedule, input, output, offset, step)
+}
+
+#[no_mangle]
+pub extern "C" fn slipgrease_decrypt_masked(
+    schedule: &[u8],
+    input: &[u8],
+    output: &mut [u8],
+    masks: &[u8],
+    offset: u8,
+    step: u8,
+) -> u8
+    ensures { λ r. ⌜ (r, now (output .exit)) ≡ decryptMaskedOf (now (schedule .entry)) (now (input .entry)) (now (output .entry)) (now (masks .entry)) offset step ⌝ }
+{
+    masked::decrypt_masked(schedule, input, output, masks, offset, step)
+}
+
+#[no_mangle]
+pub extern "C" fn slipgrease_record_masked_decryption(
+    schedule: &[u8],
+    input: &[u8],
+    masks: &[u8],
+    offset: u8,
+    step: u8,
+    states: &mut [u8],
+) -> u8
+    ensures { λ r. ⌜ (r, now (states .exit)) ≡ recordMaskedDecryptionOf (now (schedule .entry)) (now (input .entry)) (now (masks .entry)) offset step (now (states .entry)) ⌝ }
+{
+    masked::record_masked_decryption(schedule, input, masks, offset, step, states)
 }
 
 #[no_mangle]

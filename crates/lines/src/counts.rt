@@ -1,14 +1,19 @@
-// What was run, what differed and what could not be read, and the table of it.
+// What was run, what differed and what could not be read, up to the line that a program has come to, and the table of it.
 use crate::print::print;
 use std::num::wrapping_add_u64;
 
 // As many rows as a table may have; after them comes one for all.
 const ROWS: usize = 16;
 
-// A row has two cells, for the vectors that were run and for those that differ; the last cell counts the lines that could not be read.
+// A row has two cells, for the vectors that were run and for those that differ. Three cells follow: for the lines that could not be
+// read, for all lines, and for the source of the last of them.
 const UNREAD: usize = 2 * ROWS + 2;
 
-pub const CELLS: usize = 2 * ROWS + 3;
+const LINES: usize = 2 * ROWS + 3;
+
+pub const SOURCE: usize = 2 * ROWS + 4;
+
+pub const CELLS: usize = 2 * ROWS + 5;
 
 // How many vectors were run, and how many differed. The input is too short for a count to wrap.
 pub struct Tally {
@@ -52,12 +57,13 @@ pub fn count(counts: &mut [u64; CELLS], row: usize, same: bool) {
     add(counts, row, Tally::none().with(same));
 }
 
-// Says that a line could not be read, where that is so, and counts it.
-pub fn report(line: usize, read: bool, counts: &mut [u64; CELLS]) {
+// Counts a line, and says that it could not be read, where that is so.
+pub fn report(read: bool, counts: &mut [u64; CELLS]) {
+    raise(counts, LINES, 1);
     if !read {
         raise(counts, UNREAD, 1);
         let mut words = *b"line      0 could not be read\n";
-        put(&mut words, 10, line as u64);
+        put(&mut words, 10, counts[LINES]);
         print(&words);
     }
 }

@@ -5,5 +5,6 @@ pub mod input;
 mod print;
 pub mod reply;
 pub mod row;
+pub mod source;
 pub mod text;
 pub mod vector;

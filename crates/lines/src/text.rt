@@ -1,5 +1,4 @@
-// Reading the text. Its lines end at newlines, a line's fields at single spaces. A line that starts with # is a header, which names
-// the source of the lines below it; each other line is one vector.
+// Reading the text. Its lines end at newlines, a line's fields at single spaces.
 ghost use Prim.Native.Nat.{_+_, _-_, _≤_};
 ghost use lib.ListN.{length};
 use check::same;
@@ -53,22 +52,6 @@ pub fn place_of(line: &[u8], list: &[u8], count: usize) -> usize {
         n += 1;
     }
     n
-}
-
-pub fn is_header(line: &[u8]) -> bool {
-    if 0 < line.len() {
-        return line[0] == b'#';
-    }
-    false
-}
-
-// The source of the first line of a text: the place of its header among the first count of a list, or that of the line above it.
-pub fn source_of(text: &[u8], above: usize, headers: &[u8], count: usize) -> usize {
-    let line = part(text, 0, b'\n');
-    if is_header(line) {
-        return place_of(line, headers, count);
-    }
-    above
 }
 
 // Fills out with the bytes that a field spells, two digits each, and answers whether it spells as many. Each digit moves the one

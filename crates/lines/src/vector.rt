@@ -1,4 +1,4 @@
-// Vectors of a key and two blocks.
+// Vectors of a key and two blocks, which are run either way.
 use crate::text::part;
 use crate::text::read_hex;
 use check::same;
@@ -23,6 +23,30 @@ pub fn read(line: &[u8]) -> Vector {
         key,
         plain,
         cipher,
+    }
+}
+
+// From the plain block to the cipher block, or back.
+pub enum Way {
+    Encrypt,
+    Decrypt,
+}
+
+impl Vector {
+    // The block that a call is given.
+    pub fn start(self, way: Way) -> [u8; 16] {
+        match way {
+            Way::Encrypt => self.plain,
+            Way::Decrypt => self.cipher,
+        }
+    }
+
+    // The block that it should write.
+    pub fn end(self, way: Way) -> [u8; 16] {
+        match way {
+            Way::Encrypt => self.cipher,
+            Way::Decrypt => self.plain,
+        }
     }
 }
 

@@ -15,9 +15,9 @@ use Rattle.aes.proofs.Below.{under}
 use Rattle.aes.proofs.Replies.{AllHold, telling, holds-done, all-hold}
 use Rattle.aes.proofs.Written.{run-append, last-append}
 use Rattle.masks.specs.Mask.{inRow}
-use Rattle.masked.specs.Run.{covered, maskedRecord, maskedCipher}
+use Rattle.runs.specs.Run.{covered, maskedRecord, maskedCipher}
 use Rattle.masked.specs.Calls.{publishedChecks, blockAt, blocksChecks, encryptPublishedOf}
-use Rattle.masked.specs.Lent.{inTurn}
+use Rattle.masked.specs.Calls.{inTurn}
 use Rattle.masks.proofs.Row.{row-same}
 
 -- a run ends in sixteen bytes

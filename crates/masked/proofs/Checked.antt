@@ -4,15 +4,12 @@ use mathlib.Core.Path.{_≡_, refl, sym, ap, _∙_}
 use mathlib.Core.Bool.{Bool, true, false, cond, not}
 use mathlib.Core.List.{List, [], _∷_, _++_}
 use Prim.Native.Nat.{ℕ}
-use native.Mathlib.Nat.{zero-add}
 use lib.Dec.{T, eqb, eqb→eq}
 use lib.ListN.{length}
 use mir.Facts.{and-yes}
-use Rattle.aes.specs.Key.{roundKey}
 use Rattle.aes.specs.Reply.{Check, _else_, refusal, isSchedule, isInput, isOutput, isMaskTable, isOffset, isStep, isForm}
-use Rattle.aes.proofs.Undo.{state-at}
 use Rattle.aes.proofs.Replies.{AllHold, telling, all-hold}
-use Rattle.masked.specs.Calls.{checks, publishedChecks}
+use Rattle.masked.specs.Calls.{checks, publishedChecks, recordChecks}
 
 -- a check that holds is as none, and so is one that was made before
 held : (n : ℕ) (cs ds : List Check) → refusal (cs ++ (true else n) ∷ ds) ≡ refusal (cs ++ ds)
@@ -29,15 +26,27 @@ published-refusal w b out o d form =
     ap (λ (r : ℕ). cond (eqb (length w) 240) r 2) (twice (eqb (length b) 16) 3 5 (isOutput out ∷ []) (isOffset o ∷ isStep d ∷ isForm form ∷ []))
 
 -- what a record checks before its own length, where no output is lent and the input stands for it
-abbrev pub recordChecks : List ℕ → List ℕ → List ℕ → ℕ → ℕ → List Check
-recordChecks schedule input masks offset step =
+abbrev pub recordFirst : List ℕ → List ℕ → List ℕ → ℕ → ℕ → List Check
+recordFirst schedule input masks offset step =
     isSchedule schedule ∷ isInput input ∷ isMaskTable masks ∷ isOffset offset ∷ isStep step ∷ []
 
-pub record-refusal : (w b M : List ℕ) (o d : ℕ) → refusal (checks w b b M o d 0) ≡ refusal (recordChecks w b M o d)
+pub record-refusal : (w b M : List ℕ) (o d : ℕ) → refusal (checks w b b M o d 0) ≡ refusal (recordFirst w b M o d)
 record-refusal w b M o d =
     ap (λ (r : ℕ). cond (eqb (length w) 240) r 2) (twice (eqb (length b) 16) 3 4 [] (isMaskTable M ∷ isOffset o ∷ isStep d ∷ []))
 
--- the lengths that an encryption has checked
+-- checks that are told together, and one more
+pub first-fails : (cs ds : List Check) → (refusal cs ≡ 0 → ⊥) → refusal cs ≡ refusal (cs ++ ds)
+first-fails [] ds h = absurd (h refl)
+first-fails ((true else reply) ∷ cs) ds h = first-fails cs ds h
+first-fails ((false else reply) ∷ cs) ds h = refl
+
+pub first-hold : (cs ds : List Check) → AllHold cs → refusal ds ≡ refusal (cs ++ ds)
+unfolding AllHold
+first-hold [] ds h = refl
+first-hold ((true else reply) ∷ cs) ds h = first-hold cs ds (h .1)
+first-hold ((false else reply) ∷ cs) ds h = absurd (h .0)
+
+-- the lengths that a call has checked
 pub record Sizes (w b out M : List ℕ) : Type 0 where
   pub schedule : length w ≡ 240
   pub input : length b ≡ 16
@@ -55,7 +64,19 @@ sizes w b out M o d form told e =
       masks = eqb→eq (length M) 16 (h .1 .1 .1 .0);
     }
 
--- sixteen bytes are all of sixteen
-pub all-sixteen : (xs : List ℕ) → length xs ≡ 16 → roundKey xs 0 ≡ xs
-unfolding roundKey
-all-sixteen xs l = simp zero-add (state-at xs l)
+pub record RecordSizes (w b M states : List ℕ) (size : ℕ) : Type 0 where
+  pub schedule : length w ≡ 240
+  pub input : length b ≡ 16
+  pub masks : length M ≡ 16
+  pub room : length states ≡ size
+
+pub record-sizes : (size : ℕ) (w b M : List ℕ) (o d : ℕ) (states : List ℕ) {r : ℕ} → r ≡ refusal (recordChecks size w b M o d states) → r ≡ 0 → RecordSizes w b M states size
+unfolding AllHold telling
+record-sizes size w b M o d states told e =
+    let h = all-hold (recordChecks size w b M o d states) tt (sym told ∙ e) in
+    record {
+      schedule = eqb→eq (length w) 240 (h .0);
+      input = eqb→eq (length b) 16 (h .1 .0);
+      masks = eqb→eq (length M) 16 (h .1 .1 .0);
+      room = eqb→eq (length states) size (h .1 .1 .1 .1 .1 .0);
+    }

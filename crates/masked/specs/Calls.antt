@@ -2,12 +2,14 @@
 -- Assumes nothing.
 use mathlib.Core.List.{List, [], _∷_}
 use Prim.Native.Nat.{ℕ, _*_, _/_}
+use lib.Dec.{eqb}
 use lib.ListN.{length, take, drop}
 use Rattle.aes.specs.State.{at}
 use Rattle.aes.specs.Record.{bytes}
-use Rattle.aes.specs.Reply.{Check, answer, isSchedule, isInput, isOutput, isMaskTable, isOffset, isStep, isForm, isRecord, areBlocks, isAsLong, hasOffsets, areOffsets}
+use Rattle.aes.specs.Reply.{Check, _else_, answer, isSchedule, isInput, isOutput, isMaskTable, isOffset, isStep, isForm, areBlocks, isAsLong, hasOffsets, areOffsets}
 use Rattle.masks.specs.Mask.{published, inRow}
-use Rattle.masked.specs.Run.{maskedRecord, maskedCipher}
+use Rattle.runs.specs.Run.{maskedRecord, maskedCipher}
+use Rattle.runs.specs.Back.{maskedBackRecord, maskedInvCipher}
 
 -- what an encryption with any masks checks
 abbrev pub checks : List ℕ → List ℕ → List ℕ → List ℕ → ℕ → ℕ → ℕ → List Check
@@ -31,6 +33,10 @@ abbrev pub blocksChecks : List ℕ → List ℕ → List ℕ → List ℕ → �
 blocksChecks schedule input output offsets step form =
     isSchedule schedule ∷ areBlocks input ∷ isAsLong input output ∷ hasOffsets input offsets ∷ areOffsets offsets ∷ isStep step ∷ isForm form ∷ []
 
+-- it alone, with the published masks at its own offset
+abbrev pub inTurn : List ℕ → List ℕ → List ℕ → ℕ → ℕ → List ℕ
+inTurn schedule input offsets step k = maskedCipher 14 published (at offsets k) step schedule (blockAt k input)
+
 -- block by block, what encrypt_published writes
 abbrev pub encryptBlocksOf : List ℕ → List ℕ → List ℕ → List ℕ → ℕ → ℕ → ℕ × List ℕ
 encryptBlocksOf schedule input output offsets step form =
@@ -41,7 +47,32 @@ abbrev pub encryptMaskedOf : List ℕ → List ℕ → List ℕ → List ℕ →
 encryptMaskedOf schedule input output masks offset step form =
     answer (checks schedule input output masks offset step form) output (maskedCipher 14 masks offset step schedule input)
 
+-- what a record of so many bytes checks
+abbrev pub recordChecks : ℕ → List ℕ → List ℕ → List ℕ → ℕ → ℕ → List ℕ → List Check
+recordChecks size schedule input masks offset step states =
+    isSchedule schedule ∷ isInput input ∷ isMaskTable masks ∷ isOffset offset ∷ isStep step ∷ (eqb (length states) size else 8) ∷ []
+
 abbrev pub recordMaskedOf : List ℕ → List ℕ → List ℕ → ℕ → ℕ → List ℕ → ℕ × List ℕ
 recordMaskedOf schedule input masks offset step states =
-    answer (isSchedule schedule ∷ isInput input ∷ isMaskTable masks ∷ isOffset offset ∷ isStep step ∷ isRecord states ∷ []) states
-    (bytes (maskedRecord 14 masks offset step schedule input))
+    answer (recordChecks 1136 schedule input masks offset step states) states (bytes (maskedRecord 14 masks offset step schedule input))
+
+-- what a decryption with any masks checks, and one with the published masks
+abbrev pub backChecks : List ℕ → List ℕ → List ℕ → List ℕ → ℕ → ℕ → List Check
+backChecks schedule input output masks offset step =
+    isSchedule schedule ∷ isInput input ∷ isOutput output ∷ isMaskTable masks ∷ isOffset offset ∷ isStep step ∷ []
+
+abbrev pub publishedBackChecks : List ℕ → List ℕ → List ℕ → ℕ → ℕ → List Check
+publishedBackChecks schedule input output offset step = isSchedule schedule ∷ isInput input ∷ isOutput output ∷ isOffset offset ∷ isStep step ∷ []
+
+abbrev pub decryptPublishedOf : List ℕ → List ℕ → List ℕ → ℕ → ℕ → ℕ × List ℕ
+decryptPublishedOf schedule input output offset step =
+    answer (publishedBackChecks schedule input output offset step) output (maskedInvCipher 14 published offset step schedule input)
+
+abbrev pub decryptMaskedOf : List ℕ → List ℕ → List ℕ → List ℕ → ℕ → ℕ → ℕ × List ℕ
+decryptMaskedOf schedule input output masks offset step =
+    answer (backChecks schedule input output masks offset step) output (maskedInvCipher 14 masks offset step schedule input)
+
+-- 85 states
+abbrev pub recordMaskedDecryptionOf : List ℕ → List ℕ → List ℕ → ℕ → ℕ → List ℕ → ℕ × List ℕ
+recordMaskedDecryptionOf schedule input masks offset step states =
+    answer (recordChecks 1360 schedule input masks offset step states) states (bytes (maskedBackRecord 14 masks offset step schedule input))

@@ -1,6 +1,7 @@
-// The masked calls, what they are lent, and what they check alike.
+// The masked calls, and what they check alike.
+mod checked;
 mod chosen;
+pub mod decrypt;
 pub mod encrypt;
-pub(crate) mod lent;
 pub mod many;
 pub mod record;

@@ -1,9 +1,9 @@
-// The upper crate: masked runs. The module's engine.
-mod blocks;
+// The upper crate: the masked calls. The module's engine.
 mod calls;
-mod round;
-mod run;
 
+pub use calls::decrypt::decrypt_masked;
+pub use calls::decrypt::decrypt_published;
+pub use calls::decrypt::record_masked_decryption;
 pub use calls::encrypt::encrypt_masked;
 pub use calls::encrypt::encrypt_published;
 pub use calls::many::encrypt_blocks;

@@ -1,20 +1,20 @@
-// Holds the record of a masked run to the states of FIPS 197 appendix C.3, of standard input, at every offset with every step, and
+// Holds the records of masked runs to the states of FIPS 197 appendix C.3, of standard input, at every offset with every step, and
 // prints how many were run and how many differ.
 mod c3;
-mod steps;
+mod record;
 mod table;
 
+use covers::trial::Trial;
 use lines::counts::CELLS;
 use lines::counts::report;
 use lines::input::read;
 use lines::input::room;
-use lines::text::is_header;
+use lines::source::Kind;
+use lines::source::kind_of;
 use lines::text::part;
 use lines::text::past;
-use lines::text::source_of;
-
-// A source is the place of its header among all headers; this number stands for none of them.
-const UNKNOWN: usize = 2;
+use lines::vector::Way;
+use record::tried;
 
 fn main() {
     let mut text = room();
@@ -24,33 +24,30 @@ fn main() {
     table::print(&counts);
 }
 
-fn run(text: &[u8], counts: &mut [u64; CELLS]) {
-    let mut source = UNKNOWN;
-    let mut number = 0;
-    let mut at = 0;
-    while at < text.len() {
-        number += 1;
-        let rest = &text[at..];
-        source = source_below(rest, source);
-        report(number, one_line(rest, source, counts), counts);
-        at = past(text, at, b'\n');
-    }
-}
-
-// The source of the first line of a text, below one of another source.
-fn source_below(text: &[u8], above: usize) -> usize {
-    source_of(text, above, b"# rounds\n# steps", UNKNOWN)
+// Of either record.
+fn step(line: &[u8], counts: &mut [u64; CELLS]) -> bool {
+    let trial = Trial::of_step(line);
+    tried(Way::Encrypt, 0, trial, table::STEPS, counts);
+    tried(Way::Decrypt, 0, trial, table::STEPS, counts)
 }
 
 // Runs the first line of a text, and answers whether it could be read.
-fn one_line(text: &[u8], source: usize, counts: &mut [u64; CELLS]) -> bool {
+fn one_line(text: &[u8], counts: &mut [u64; CELLS]) -> bool {
     let line = part(text, 0, b'\n');
-    if is_header(line) {
-        return source != UNKNOWN;
-    }
-    match source {
-        0 => c3::state(line, counts),
-        1 => steps::replies(line, counts),
+    let kind = kind_of(line, counts);
+    match kind {
+        Kind::Header => true,
+        Kind::Rounds => c3::state(Way::Encrypt, line, counts),
+        Kind::InverseRounds => c3::state(Way::Decrypt, line, counts),
+        Kind::Step => step(line, counts),
         _ => false,
+    }
+}
+
+fn run(text: &[u8], counts: &mut [u64; CELLS]) {
+    let mut at = 0;
+    while at < text.len() {
+        report(one_line(&text[at..], counts), counts);
+        at = past(text, at, b'\n');
     }
 }

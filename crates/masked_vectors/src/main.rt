@@ -1,23 +1,24 @@
 // Runs the vectors of standard input on the calls of the masked engine that encrypt, at every offset with every step, and prints
 // how many of each source were run and how many differ.
+mod calls;
 mod many;
-mod one;
-mod steps;
 mod table;
 
+use calls::Call;
+use calls::tried;
+use covers::trial::Asked;
+use covers::trial::Trial;
 use lines::counts::CELLS;
+use lines::counts::add;
 use lines::counts::report;
 use lines::input::read;
 use lines::input::room;
 use lines::row;
-use lines::row::Row;
-use lines::text::is_header;
+use lines::source::Kind;
+use lines::source::kind_of;
 use lines::text::part;
 use lines::text::past;
-use lines::text::source_of;
-
-// A source is the place of its header among all headers; this number stands for none of them.
-const UNKNOWN: usize = 3;
+use lines::vector::Way;
 
 fn main() {
     let mut text = room();
@@ -27,48 +28,50 @@ fn main() {
     table::print(&counts);
 }
 
-fn run(text: &[u8], counts: &mut [u64; CELLS]) {
-    let mut source = UNKNOWN;
-    let mut number = 0;
-    let mut at = 0;
-    while at < text.len() {
-        number += 1;
-        let rest = &text[at..];
-        source = source_below(rest, source);
-        report(number, one_line(rest, source, counts), counts);
-        at = past(text, at, b'\n');
+// One by one, and all of a row together.
+fn ecb(text: &[u8], counts: &mut [u64; CELLS]) -> bool {
+    let trial = Trial::of_vector(Asked::Block, Way::Encrypt, part(text, 0, b'\n'));
+    if trial.read {
+        add(counts, table::MANY_ECB, many::encrypted(row::read(text)));
     }
+    either(trial, table::PUBLISHED_ECB, table::OTHER_ECB, counts)
 }
 
-// The source of the first line of a text, below one of another source.
-fn source_below(text: &[u8], above: usize) -> usize {
-    let headers = b"\
-# ecb
-# chain encrypt
-# steps";
-    source_of(text, above, headers, UNKNOWN)
+// By each call.
+fn step(line: &[u8], counts: &mut [u64; CELLS]) -> bool {
+    let trial = Trial::of_step(line);
+    tried(Call::Many, trial, table::STEPS, counts);
+    either(trial, table::STEPS, table::STEPS, counts)
 }
 
 // Runs the first line of a text, and answers whether it could be read.
-fn one_line(text: &[u8], source: usize, counts: &mut [u64; CELLS]) -> bool {
+fn one_line(text: &[u8], counts: &mut [u64; CELLS]) -> bool {
     let line = part(text, 0, b'\n');
-    if is_header(line) {
-        return source != UNKNOWN;
-    }
-    match source {
-        0 => ecb(row::read(text), counts),
-        1 => one::chain(line, counts),
-        2 => steps::replies(line, counts),
+    let kind = kind_of(line, counts);
+    match kind {
+        Kind::Header => true,
+        Kind::Ecb => ecb(text, counts),
+        Kind::EncryptedChain => either(
+            Trial::of_vector(Asked::Chain, Way::Encrypt, line),
+            table::PUBLISHED_CHAINS,
+            table::OTHER_CHAINS,
+            counts,
+        ),
+        Kind::Step => step(line, counts),
         _ => false,
     }
 }
 
-// One by one, and all of a row together.
-fn ecb(row: Row, counts: &mut [u64; CELLS]) -> bool {
-    let first = row.first;
-    if first.read {
-        one::ecb(first, counts);
-        many::ecb(row, counts);
+// By either call of one block, each counted in its row.
+fn either(trial: Trial, published: usize, other: usize, counts: &mut [u64; CELLS]) -> bool {
+    tried(Call::Published, trial, published, counts);
+    tried(Call::Masked, trial, other, counts)
+}
+
+fn run(text: &[u8], counts: &mut [u64; CELLS]) {
+    let mut at = 0;
+    while at < text.len() {
+        report(one_line(&text[at..], counts), counts);
+        at = past(text, at, b'\n');
     }
-    first.read
 }

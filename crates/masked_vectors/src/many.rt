@@ -1,21 +1,14 @@
 // The call that encrypts many blocks.
-use crate::table;
 use aes::reply::DONE;
 use check::same;
 use covers::labels::ALL;
 use covers::labels::Labels;
 use covers::labels::turned;
-use lines::counts::CELLS;
 use lines::counts::Tally;
-use lines::counts::add;
 use lines::row::Row;
 
-pub fn ecb(row: Row, counts: &mut [u64; CELLS]) {
-    add(counts, table::MANY_ECB, encrypted(row));
-}
-
 // All vectors of a row in one call, with all labels of the first. Where the key is refused, a schedule of zeros leads to differences.
-fn encrypted(row: Row) -> Tally {
+pub fn encrypted(row: Row) -> Tally {
     let first = row.first;
     let key = first.key;
     let mut schedule = [0u8; 240];

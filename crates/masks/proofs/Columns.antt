@@ -1,4 +1,4 @@
--- Compensation(n + 4) is Compensation(n) turned by a column, so the first four are all.
+-- The constant of label n + 4 is that of label n turned by a column, so the first four are all.
 -- Assumes nothing.
 use mathlib.Core.Path.{_≡_, refl, sym, ap, ap₂, _∙_}
 use mathlib.Core.List.{List}
@@ -7,13 +7,16 @@ use native.Mathlib.Omega.{arith}
 use lib.ListN.{length}
 use lib.Seq.{ext-getD}
 use Rattle.aes.specs.Byte.{table}
-use Rattle.aes.specs.State.{at, state, shiftRows, mixColumns, addRoundKey}
+use Rattle.aes.specs.State.{at, state, shiftRows, mixColumns, invShiftRows, invMixColumns, addRoundKey}
 use Rattle.aes.proofs.Listed.{table-at, table-length, table-same}
-use Rattle.masks.specs.Mask.{_⊞_, label, mask, compensation, inRow, allCompensations}
+use Rattle.masks.specs.declared.constants.Kind.{Kind}
+use Rattle.masks.specs.declared.constants.Kind.the-variants.{Compensation, AfterRows, AfterColumns}
+use Rattle.masks.specs.Kinds.{constantOf}
+use Rattle.masks.specs.Mask.{_⊞_, label, mask, compensation, afterRows, afterColumns, inRow, constants}
 use Rattle.masks.proofs.Row.{row-at, row-size}
-use Rattle.masks.proofs.Stored.{constant, constant-size}
+use Rattle.masks.proofs.Stored.{Sized, compensation-sized, rows-sized, columns-sized}
 
-unfoldable turned : List ℕ → List ℕ
+unfoldable pub turned : List ℕ → List ℕ
 turned s = state (λ i. at s ((i + 4) % 16))
 
 turned-at : (s : List ℕ) (i : ℕ) → i < 16 → at (turned s) i ≡ at s ((i + 4) % 16)
@@ -34,13 +37,44 @@ turned-mix : (s : List ℕ) → mixColumns (turned s) ≡ turned (mixColumns s)
 unfolding mixColumns turned
 turned-mix s = refl
 
+turned-unshift : (s : List ℕ) → invShiftRows (turned s) ≡ turned (invShiftRows s)
+unfolding invShiftRows turned
+turned-unshift s = refl
+
+turned-unmix : (s : List ℕ) → invMixColumns (turned s) ≡ turned (invMixColumns s)
+unfolding invMixColumns turned
+turned-unmix s = refl
+
 turned-add : (s t : List ℕ) → turned s ⊞ turned t ≡ turned (s ⊞ t)
 unfolding addRoundKey turned
 turned-add s t = refl
 
-constant-turned : (M : List ℕ) (k : ℕ) → constant M (k + 4) ≡ turned (constant M k)
+-- so does every constant
+abbrev pub Turning : (List ℕ → List ℕ) → Type 0
+Turning f = (m : List ℕ) → f (turned m) ≡ turned (f m)
+
+pub compensation-turning : Turning compensation
 unfolding compensation
-constant-turned M k = rw (turned-mask M 0 k, turned-shift, turned-mix) (turned-add (mask M 0 k) (mixColumns (shiftRows (mask M 0 k))))
+compensation-turning m = rw (turned-shift m, turned-mix (shiftRows m)) (turned-add m (mixColumns (shiftRows m)))
+
+pub rows-turning : Turning afterRows
+unfolding afterRows
+rows-turning m = rw (turned-unshift m) (turned-add m (invShiftRows m))
+
+pub columns-turning : Turning afterColumns
+unfolding afterColumns
+columns-turning m = rw (turned-unmix m) (turned-add m (invMixColumns m))
+
+-- each kind of constants has sixteen bytes, and turns with the mask
+pub kind-sized : (k : Kind) → Sized (constantOf k)
+kind-sized Compensation = compensation-sized
+kind-sized AfterRows = rows-sized
+kind-sized AfterColumns = columns-sized
+
+kind-turning : (k : Kind) → Turning (constantOf k)
+kind-turning Compensation = compensation-turning
+kind-turning AfterRows = rows-turning
+kind-turning AfterColumns = columns-turning
 
 -- states in a row, byte by byte
 abbrev pub rowByte : (ℕ → List ℕ) → ℕ → ℕ
@@ -55,21 +89,32 @@ row-bytes g h n =
     let e : y ≡ 16 * (y / 16) + y % 16 = omega arith in
     ap (at (inRow g n)) e ∙ row-at g 16 h n (y / 16) (y % 16) (omega (arith, below)) (omega arith) ∙ sym (table-at (rowByte g) (16 * n) y below))
 
-pub first-four : (M : List ℕ) → inRow (constant M) 4 ≡ table (rowByte (constant M)) 64
-first-four M = row-bytes (constant M) (constant-size M) 4
+-- the constants of one kind
+module _ (k : Kind) (M : List ℕ) where
+  abbrev pub constant : ℕ → List ℕ
+  constant n = constantOf k (mask M 0 n)
 
-pub all-sixteen : (M : List ℕ) → allCompensations M ≡ table (rowByte (constant M)) 256
-unfolding allCompensations
-all-sixteen M = row-bytes (constant M) (constant-size M) 16
+  sized : (n : ℕ) → length (constant n) ≡ 16
+  sized n = kind-sized k (mask M 0 n)
 
-column : (M : List ℕ) (o i x y : ℕ) → i < 16 → x ≡ 16 * o + (i + 4) % 16 → y ≡ 16 * (o + 4) + i → rowByte (constant M) x ≡ rowByte (constant M) y
-column M o i x y lt hx hy =
-    ap₂ at (ap (constant M) (omega (arith, hx))) (omega (arith, hx)) ∙ sym (turned-at (constant M o) i lt)
-    ∙ ap₂ at (sym (constant-turned M o) ∙ ap (constant M) (omega (arith, lt, hy))) (omega (arith, lt, hy))
+  pub first-four : inRow constant 4 ≡ table (rowByte constant) 64
+  first-four = row-bytes constant sized 4
 
--- row y / 16 is the one four before it, its last twelve bytes first
-pub twelve : (M : List ℕ) (y i : ℕ) → 64 ≤ y → y % 16 ≡ 0 → i < 12 → rowByte (constant M) (y - 60 + i) ≡ rowByte (constant M) (y + i)
-twelve M y i le m lt = column M (y / 16 - 4) i (y - 60 + i) (y + i) (omega (arith, lt)) (omega (arith, le, m, lt)) (omega (arith, le, m, lt))
+  pub all-sixteen : constants (constantOf k) M ≡ table (rowByte constant) 256
+  unfolding constants
+  all-sixteen = row-bytes constant sized 16
 
-pub four : (M : List ℕ) (y i : ℕ) → 64 ≤ y → y % 16 ≡ 0 → i < 4 → rowByte (constant M) (y - 64 + i) ≡ rowByte (constant M) (y + 12 + i)
-four M y i le m lt = column M (y / 16 - 4) (12 + i) (y - 64 + i) (y + 12 + i) (omega (arith, lt)) (omega (arith, le, m, lt)) (omega (arith, le, m, lt))
+  constant-turned : (n : ℕ) → constant (n + 4) ≡ turned (constant n)
+  constant-turned n = ap (constantOf k) (turned-mask M 0 n) ∙ kind-turning k (mask M 0 n)
+
+  column : (o i x y : ℕ) → i < 16 → x ≡ 16 * o + (i + 4) % 16 → y ≡ 16 * (o + 4) + i → rowByte constant x ≡ rowByte constant y
+  column o i x y lt hx hy =
+      ap₂ at (ap constant (omega (arith, hx))) (omega (arith, hx)) ∙ sym (turned-at (constant o) i lt)
+      ∙ ap₂ at (sym (constant-turned o) ∙ ap constant (omega (arith, lt, hy))) (omega (arith, lt, hy))
+
+  -- row y / 16 is the one four before it, its last twelve bytes first
+  pub twelve : (y i : ℕ) → 64 ≤ y → y % 16 ≡ 0 → i < 12 → rowByte constant (y - 60 + i) ≡ rowByte constant (y + i)
+  twelve y i le m lt = column (y / 16 - 4) i (y - 60 + i) (y + i) (omega (arith, lt)) (omega (arith, le, m, lt)) (omega (arith, le, m, lt))
+
+  pub four : (y i : ℕ) → 64 ≤ y → y % 16 ≡ 0 → i < 4 → rowByte constant (y - 64 + i) ≡ rowByte constant (y + 12 + i)
+  four y i le m lt = column (y / 16 - 4) (12 + i) (y - 64 + i) (y + 12 + i) (omega (arith, lt)) (omega (arith, le, m, lt)) (omega (arith, le, m, lt))

@@ -107,6 +107,17 @@ first-table f x lt =
     let high : x / 256 ≡ 0 = omega (arith, lt) in
     ap f (sym (ap₂ (_⊕_) low high ∙ xor-zero x))
 
+-- the second has its neighbours exchanged
+pub neighbour : (x : ℕ) → 256 ≤ x → x < 512 → (x - 256) ⊕ 1 < 256
+neighbour x le lt = xor-byte (x - 256) 1 (omega (arith, le, lt)) (lit< tt)
+
+pub second-table : (f : ℕ → ℕ) (x : ℕ) → 256 ≤ x → x < 512 → turnedTable f ((x - 256) ⊕ 1) ≡ turnedTable f x
+unfolding turnedTable
+second-table f x le lt =
+    let low : x % 256 ≡ x - 256 = omega (arith, le, lt) in
+    let high : x / 256 ≡ 1 = omega (arith, le, lt) in
+    sym (first-table f ((x - 256) ⊕ 1) (neighbour x le lt)) ∙ ap f (sym (ap₂ (_⊕_) low high))
+
 -- where an entry is taken from, and the one k away in its pair
 abbrev index : ℕ → ℕ
 index q = (q % 256) ⊕ (q / 256)
@@ -176,10 +187,6 @@ module _ (k end : ℕ) (small : k < 16) (whole : end ≡ 256 * k) (sums : table 
 
   doubling : Doubling k end
   doubling = record { pairs = fill; exchanged = tables }
-
-pub by-one : Doubling 1 256
-unfolding table
-by-one = doubling 1 256 (lit< tt) refl refl refl (λ q. omega arith) (λ q. omega arith) (λ y lt m. (omega (arith, lt, m), omega (arith, m))) (λ y i m hi. (omega (arith, m, hi), omega (arith, m, hi)))
 
 pub by-two : Doubling 2 512
 unfolding table

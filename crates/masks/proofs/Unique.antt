@@ -8,10 +8,10 @@ use Rattle.aes.proofs.Unique.{Unique, UniqueWriting, both}
 use Rattle.masks.specs.declared.label.Label.{Label}
 use Rattle.masks.proofs.answers.answers.Reads as answers
 use Rattle.masks.proofs.boxes.made.Reads as made
-use Rattle.masks.proofs.constants.compensations.Reads as compensations
+use Rattle.masks.proofs.boxes.made_inverse.Reads as made-inverse
+use Rattle.masks.proofs.constants.made.Reads as constants-made
 use Rattle.masks.proofs.constants.mask.Reads as mask
 use Rattle.masks.proofs.constants.published.Reads as published
-use Rattle.masks.proofs.constants.stored_compensations.Reads as stored-compensations
 use Rattle.masks.proofs.constants.twice.Reads as twice
 use Rattle.masks.proofs.label.Label.make.Reads as make
 use Rattle.masks.proofs.label.Label.next.Reads as next
@@ -19,7 +19,6 @@ use Rattle.masks.proofs.label.Label.read.Reads as read
 use Rattle.masks.proofs.sheet.read_sheet.Reads as read-sheet
 use Rattle.masks.proofs.sheet.write_sheet.Reads as write-sheet
 use Rattle.masks.proofs.step.taken.Reads as step-taken
-use Rattle.masks.proofs.store.boxes.Reads as boxes
 
 one-label : (x y : Label) (z : ℕ) → x .0 ≡ z → y .0 ≡ z → x ≡ y
 one-label x y z p q = let e : x .0 ≡ y .0 = p ∙ sym q in λ i. record { 0 = e i }
@@ -39,20 +38,17 @@ answers-unique κs args exit x y p q = p ∙ sym q
 pub published-unique : Unique published.Post
 published-unique κs args exit x y p q = p ∙ sym q
 
-pub stored-compensations-unique : Unique stored-compensations.Post
-stored-compensations-unique κs args exit x y p q = p ∙ sym q
-
-pub boxes-unique : Unique boxes.Post
-boxes-unique κs args exit x y p q = p ∙ sym q
-
 pub twice-unique : Unique twice.Post
 twice-unique κs args exit x y p q = p ∙ sym q
 
 pub mask-unique : Unique mask.Post
 mask-unique κs args exit x y p q = p ∙ sym q
 
-pub compensations-unique : UniqueWriting compensations.Post (λ κs e. e .1 .0 .now)
-compensations-unique κs args e f x y p q = (refl, p ∙ sym q)
+pub constants-made-unique : UniqueWriting constants-made.Post (λ κs e. e .1 .1 .0 .now)
+constants-made-unique κs args e f x y p q = (refl, p ∙ sym q)
+
+pub made-inverse-unique : UniqueWriting made-inverse.Post (λ κs e. e .1 .1 .0 .now)
+made-inverse-unique κs args e f x y p q = (refl, p ∙ sym q)
 
 pub made-unique : UniqueWriting made.Post (λ κs e. e .1 .1 .0 .now)
 made-unique κs args e f x y p q = (refl, p ∙ sym q)

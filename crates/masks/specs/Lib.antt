@@ -1,4 +1,5 @@
 pub mod Mask
+pub mod Kinds
 pub mod Order
 pub mod Parts
 pub mod Sheet

@@ -3,8 +3,7 @@
 use mathlib.Core.List.{List, [], _∷_, _++_}
 use Prim.Native.Nat.{ℕ, zero, suc, _+_, _%_}
 use Rattle.aes.specs.Byte.{_⊕_, table}
-use Rattle.aes.specs.Box.{sBox}
-use Rattle.aes.specs.State.{at, state, shiftRows, mixColumns, addRoundKey}
+use Rattle.aes.specs.State.{at, state, shiftRows, mixColumns, invShiftRows, invMixColumns, addRoundKey}
 
 -- the published masks M0 to M15
 unfoldable pub published : List ℕ
@@ -28,22 +27,28 @@ mask M o k = state (λ i. at M (label o k i))
 abbrev pub twice : List ℕ → List ℕ
 twice M = table (λ i. at M (i % 16)) 32
 
--- masked box j with step d: S(x xor M(j)) xor M(j+d)
-unfoldable pub maskedBox : List ℕ → ℕ → ℕ → ℕ → ℕ
-maskedBox M d j x = sBox (x ⊕ at M (j % 16)) ⊕ at M ((j + d) % 16)
+-- masked box j over S, or over its inverse, with step d: S(x xor M(j)) xor M(j+d)
+unfoldable pub maskedBox : (ℕ → ℕ) → List ℕ → ℕ → ℕ → ℕ → ℕ
+maskedBox S M d j x = S (x ⊕ at M (j % 16)) ⊕ at M ((j + d) % 16)
 
--- Compensation, by the mask that is to lie there
+-- Compensation, and the corrections of a decryption after INVSHIFTROWS and INVMIXCOLUMNS, by the mask that is to lie there
 unfoldable pub compensation : List ℕ → List ℕ
 compensation m = m ⊞ mixColumns (shiftRows m)
+
+unfoldable pub afterRows : List ℕ → List ℕ
+afterRows m = m ⊞ invShiftRows m
+
+unfoldable pub afterColumns : List ℕ → List ℕ
+afterColumns m = m ⊞ invMixColumns m
 
 -- f 0, f 1, .. f (n - 1), one after the other
 unfoldable pub inRow : (ℕ → List ℕ) → ℕ → List ℕ
 inRow f zero = []
 inRow f (suc n) = inRow f n ++ f n
 
--- the sixteen masked boxes with step d, and Compensation(0) to Compensation(15), which depend on no step, as they are stored
-unfoldable pub maskedBoxes : List ℕ → ℕ → List ℕ
-maskedBoxes M d = inRow (λ j. table (maskedBox M d j) 256) 16
+-- the sixteen masked boxes with step d, and the sixteen constants of one kind, which depend on no step, as they are stored
+unfoldable pub maskedBoxes : (ℕ → ℕ) → List ℕ → ℕ → List ℕ
+maskedBoxes S M d = inRow (λ j. table (maskedBox S M d j) 256) 16
 
-unfoldable pub allCompensations : List ℕ → List ℕ
-allCompensations M = inRow (λ k. compensation (mask M 0 k)) 16
+unfoldable pub constants : (List ℕ → List ℕ) → List ℕ → List ℕ
+constants f M = inRow (λ k. f (mask M 0 k)) 16

@@ -3,6 +3,7 @@ ghost use mathlib.Core.Path.{_≡_};
 ghost use Prim.Native.Nat.{ℕ, _+_, _*_, _≤_, _<_};
 ghost use lib.ListN.{length};
 ghost use Rattle.aes.specs.Byte.{_⊕_, table};
+ghost use Rattle.aes.specs.Box.{sBox, invSBox};
 ghost use Rattle.masks.specs.Mask.{maskedBoxes};
 ghost use Rattle.masks.specs.Parts.{turnedTable, Further, Pairs, Exchanged};
 use crate::label::Label;
@@ -12,17 +13,24 @@ use aes::tables;
 
 // The box of each label, to the lent place: it takes the mask of its label and gives that of the label which is a step on.
 pub fn made(masks: [u8; 16], step: u8, boxes: &mut [u8; 4096])
-    ensures { λ _. ⌜ now (boxes .exit) ≡ maskedBoxes masks step ⌝ }
+    ensures { λ _. ⌜ now (boxes .exit) ≡ maskedBoxes sBox masks step ⌝ }
 {
-    filled(masks, step, boxes);
+    filled(&tables::sbox(), masks, step, boxes);
 }
 
-fn filled(masks: [u8; 16], step: u8, boxes: &mut [u8])
-    requires { ⌜ length (now boxes) ≡ 4096 ⌝ }
-    ensures { λ _. ⌜ now (boxes .exit) ≡ maskedBoxes masks step ⌝ }
+// The same of the inverse of S, for decryption.
+pub fn made_inverse(masks: [u8; 16], step: u8, boxes: &mut [u8; 4096])
+    ensures { λ _. ⌜ now (boxes .exit) ≡ maskedBoxes invSBox masks step ⌝ }
+{
+    filled(&tables::inv_sbox(), masks, step, boxes);
+}
+
+fn filled(lent: &[u8; 256], masks: [u8; 16], step: u8, boxes: &mut [u8])
+    requires { ⌜ (length (now lent) ≡ 256) × (length (now boxes) ≡ 4096) ⌝ }
+    ensures { λ _. ⌜ ((f : ℕ → ℕ) → now (lent .entry) ≡ table f 256 → now (boxes .exit) ≡ maskedBoxes f masks step) ⌝ }
 {
     let mut s = [0u8; 4096];
-    turned(&tables::sbox(), &mut s);
+    turned(lent, &mut s);
     let mut l = Label::FIRST;
     let mut n = 0;
     while n < 16 {
@@ -56,8 +64,8 @@ fn fill(tables: &[u8; 4096], from: u8, to: u8, part: &mut [u8])
     }
 }
 
-// Sixteen tables in a row, in the lent place, of which table l has at x what the lent one has at x xor l. They double: the first k tables are
-// written once more, each k bytes exchanged with the next k.
+// Sixteen tables in a row, in the lent place, of which table l has at x what the lent one has at x xor l. The first two are laid byte by byte;
+// then they double: the first k tables are written once more, each k bytes exchanged with the next k.
 fn turned(t: &[u8; 256], r: &mut [u8; 4096])
     requires { ⌜ (length (now t) ≡ 256) × (length (now r) ≡ 4096) ⌝ }
     ensures { λ _. ⌜ (length (now (r .exit)) ≡ 4096) × ((f : ℕ → ℕ) → now (t .entry) ≡ table f 256 → now (r .exit) ≡ table (turnedTable f) 4096) ⌝ }
@@ -67,7 +75,10 @@ fn turned(t: &[u8; 256], r: &mut [u8; 4096])
         r[x] = t[x];
         x += 1;
     }
-    doubled(r, 1, 256);
+    while x < 512 {
+        r[x] = r[(x - 256) ^ 1];
+        x += 1;
+    }
     doubled(r, 2, 512);
     doubled(r, 4, 1024);
     doubled(r, 8, 2048);
@@ -78,7 +89,7 @@ fn doubled(r: &mut [u8; 4096], k: usize, end: usize)
     ensures { λ _. ⌜ Further (now (r .entry)) (now (r .exit)) end (end + end) (Exchanged k end) ⌝ }
 {
     let mut y = 0;
-    while y < end {
+    while y != end {
         moved(r, y + k, end + y, k);
         moved(r, y, end + y + k, k);
         y += 2 * k;

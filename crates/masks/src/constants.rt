@@ -2,7 +2,8 @@
 ghost use mathlib.Core.Path.{_≡_};
 ghost use Prim.Native.Nat.{_+_, _%_};
 ghost use lib.ListN.{length};
-ghost use Rattle.masks.specs.Mask.{published, twice, mask, compensation, inRow, allCompensations};
+ghost use Rattle.masks.specs.Mask.{published, twice, mask, inRow, constants};
+ghost use Rattle.masks.specs.Kinds.{constantOf};
 ghost use Rattle.aes.specs.State.{at, state};
 ghost use Rattle.aes.specs.Held.{Holds};
 use crate::label::Label;
@@ -10,42 +11,27 @@ use crate::label::Position;
 use crate::parts::moved;
 use crate::parts::row;
 use aes::add;
+use aes::inv_mix_columns;
+use aes::inv_shift_rows;
 use aes::mix_columns;
 use aes::shift_rows;
 
 const MASKS: [u8; 16] = *b"\
 \x00\x0f\x36\x39\x53\x5c\x65\x6a\x95\x9a\xa3\xac\xc6\xc9\xf0\xff";
 
-// Compensation(0) to Compensation(15) for the published masks.
-const COMPENSATIONS: [u8; 256] = *b"\
-\xb8\xb6\x2d\x23\x89\x12\x1c\x87\xb8\xb6\x2d\x23\x89\x12\x1c\x87\
-\x12\x1c\x10\x8b\xb6\x2d\x85\x8b\x12\x1c\x10\x8b\xb6\x2d\x85\x8b\
-\x2d\x85\x89\xb4\x1c\x10\xb8\x21\x2d\x85\x89\xb4\x1c\x10\xb8\x21\
-\x10\x2d\x23\x1e\x85\x1c\x87\x1e\x10\x2d\x23\x1e\x85\x1c\x87\x1e\
-\x89\x12\x1c\x87\xb8\xb6\x2d\x23\x89\x12\x1c\x87\xb8\xb6\x2d\x23\
-\xb6\x2d\x85\x8b\x12\x1c\x10\x8b\xb6\x2d\x85\x8b\x12\x1c\x10\x8b\
-\x1c\x10\xb8\x21\x2d\x85\x89\xb4\x1c\x10\xb8\x21\x2d\x85\x89\xb4\
-\x85\x1c\x87\x1e\x10\x2d\x23\x1e\x85\x1c\x87\x1e\x10\x2d\x23\x1e\
-\xb8\xb6\x2d\x23\x89\x12\x1c\x87\xb8\xb6\x2d\x23\x89\x12\x1c\x87\
-\x12\x1c\x10\x8b\xb6\x2d\x85\x8b\x12\x1c\x10\x8b\xb6\x2d\x85\x8b\
-\x2d\x85\x89\xb4\x1c\x10\xb8\x21\x2d\x85\x89\xb4\x1c\x10\xb8\x21\
-\x10\x2d\x23\x1e\x85\x1c\x87\x1e\x10\x2d\x23\x1e\x85\x1c\x87\x1e\
-\x89\x12\x1c\x87\xb8\xb6\x2d\x23\x89\x12\x1c\x87\xb8\xb6\x2d\x23\
-\xb6\x2d\x85\x8b\x12\x1c\x10\x8b\xb6\x2d\x85\x8b\x12\x1c\x10\x8b\
-\x1c\x10\xb8\x21\x2d\x85\x89\xb4\x1c\x10\xb8\x21\x2d\x85\x89\xb4\
-\x85\x1c\x87\x1e\x10\x2d\x23\x1e\x85\x1c\x87\x1e\x10\x2d\x23\x1e";
+// Which constants of sixteen labels: an encryption's compensations, or a decryption's corrections after InvShiftRows and after
+// InvMixColumns.
+pub enum Kind {
+    Compensation,
+    AfterRows,
+    AfterColumns,
+}
 
 // M0 to M15.
 pub fn published() -> [u8; 16]
     ensures { λ r. ⌜ r ≡ published ⌝ }
 {
     MASKS
-}
-
-pub fn stored_compensations() -> [u8; 256]
-    ensures { λ r. ⌜ r ≡ allCompensations published ⌝ }
-{
-    COMPENSATIONS
 }
 
 // The masks twice over, so that sixteen of them lie in a row from any label on.
@@ -76,12 +62,12 @@ pub fn mask(twice: [u8; 32], l: Label) -> [u8; 16]
     r
 }
 
-// Compensation(0) to Compensation(15) for any masks, to the lent place. Each is the one of the label four before it turned by a
-// column, so the first four are all that is worked out.
-pub fn compensations(masks: [u8; 16], r: &mut [u8; 256])
-    ensures { λ _. ⌜ now (r .exit) ≡ allCompensations masks ⌝ }
+// The constants of labels 0 to 15 for any masks, to the lent place. Each is the one of the label four before it turned by a
+// column, so four are worked out and the others moved.
+pub fn made(kind: Kind, masks: [u8; 16], r: &mut [u8; 256])
+    ensures { λ _. ⌜ now (r .exit) ≡ constants (constantOf kind) masks ⌝ }
 {
-    first_four(masks, r);
+    first_four(kind, masks, r);
     let mut y = 64;
     while y < 256 {
         moved(r, y - 60, y, 12);
@@ -90,15 +76,15 @@ pub fn compensations(masks: [u8; 16], r: &mut [u8; 256])
     }
 }
 
-fn first_four(masks: [u8; 16], r: &mut [u8])
+fn first_four(kind: Kind, masks: [u8; 16], r: &mut [u8])
     requires { ⌜ length (now r) ≡ 256 ⌝ }
-    ensures { λ _. ⌜ Holds 256 (inRow (λ k. compensation (mask masks 0 k)) 4) (now (r .exit)) ⌝ }
+    ensures { λ _. ⌜ Holds 256 (inRow (λ k. constantOf kind (mask masks 0 k)) 4) (now (r .exit)) ⌝ }
 {
     let twice = twice(masks);
     let mut l = Label::FIRST;
     let mut n = 0;
     while n < 4 {
-        let c = compensation(twice, l);
+        let c = constant(kind, mask(twice, l));
         row(&c, 0, 0, r, 16 * n);
         let m = l.next(1);
         l = m;
@@ -106,9 +92,12 @@ fn first_four(masks: [u8; 16], r: &mut [u8])
     }
 }
 
-fn compensation(twice: [u8; 32], l: Label) -> [u8; 16]
-    ensures { λ r. ⌜ r ≡ compensation (state (λ i. at twice (l .0 % 16 + i))) ⌝ }
+fn constant(kind: Kind, m: [u8; 16]) -> [u8; 16]
+    ensures { λ r. ⌜ r ≡ constantOf kind m ⌝ }
 {
-    let m = mask(twice, l);
-    add(m, mix_columns(shift_rows(m)))
+    match kind {
+        Kind::Compensation => add(m, mix_columns(shift_rows(m))),
+        Kind::AfterRows => add(m, inv_shift_rows(m)),
+        Kind::AfterColumns => add(m, inv_mix_columns(m)),
+    }
 }

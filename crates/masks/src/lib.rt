@@ -7,7 +7,6 @@ mod order;
 mod parts;
 mod sheet;
 pub mod step;
-pub mod store;
 
 pub use sheet::read_sheet;
 pub use sheet::write_sheet;

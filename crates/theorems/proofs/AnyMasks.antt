@@ -1,19 +1,18 @@
 -- The relation over any sequence of masks: a masked run's states are the plain ones, each under the mask of its point.
 -- Assumes nothing.
-use mathlib.Core.Path.{_≡_, refl, sym, ap}
-use mathlib.Core.List.{List, _∷_, _++_, map, map-append}
-use Prim.Native.Nat.{ℕ, zero, suc, _-_}
+use mathlib.Core.Path.{_≡_, refl, ap}
+use mathlib.Core.List.{List, _∷_, _++_, map}
+use Prim.Native.Nat.{ℕ, suc, _-_}
 use Rattle.aes.specs.State.{subBytes, shiftRows, mixColumns, addRoundKey}
 use Rattle.aes.specs.Key.{roundKey}
 use Rattle.aes.specs.Record.{Point, block, keyed, boxed, shifted, mixed, compensated, closed, uncovered, whole, final, wholes, points, run, last, plain, plainRecord}
 use Rattle.aes.proofs.Xor.{sums}
 use Rattle.aes.proofs.Undo.{mix-add, shift-add}
-use Rattle.aes.proofs.Written.{last-append}
 use Rattle.masks.specs.Mask.{_⊞_}
-use Rattle.theorems.specs.MaskTable.{bare, summed}
-use Rattle.theorems.proofs.Cover.{Linked, linked-append, cover}
+use Rattle.theorems.specs.MaskTable.{bare, maskBy, summed}
+use Rattle.theorems.proofs.Cover.{Linked, linked-rounds, cover}
 
-add-swap : (s m k : List ℕ) → s ⊞ m ⊞ k ≡ s ⊞ k ⊞ m
+pub add-swap : (s m k : List ℕ) → s ⊞ m ⊞ k ≡ s ⊞ k ⊞ m
 unfolding addRoundKey
 add-swap s m k = simp sums
 
@@ -25,7 +24,7 @@ pub add-gone : (s m : List ℕ) → s ⊞ m ⊞ m ≡ s ⊞ bare
 unfolding addRoundKey
 add-gone s m = simp sums
 
-add-bare : (a b : List ℕ) → a ⊞ bare ⊞ b ≡ a ⊞ b
+pub add-bare : (a b : List ℕ) → a ⊞ bare ⊞ b ≡ a ⊞ b
 unfolding addRoundKey
 add-bare a b = simp sums
 
@@ -40,17 +39,7 @@ coveredBy K w (compensated r) s = s ⊞ (K (suc r) ⊞ mixColumns (shiftRows (K 
 coveredBy K w (closed r) s = s ⊞ roundKey w (suc r)
 coveredBy K w (uncovered r) s = s ⊞ shiftRows (K (suc r))
 
--- the mask at each point, and before it
-unfoldable pub maskBy : (ℕ → List ℕ) → Point → List ℕ
-maskBy K block = K 0
-maskBy K (keyed r) = K r
-maskBy K (boxed r) = K (suc r)
-maskBy K (shifted r) = shiftRows (K (suc r))
-maskBy K (mixed r) = mixColumns (shiftRows (K (suc r)))
-maskBy K (compensated r) = K (suc r)
-maskBy K (closed r) = shiftRows (K (suc r))
-maskBy K (uncovered r) = bare
-
+-- the mask before each point
 before : (ℕ → List ℕ) → Point → List ℕ
 before K block = bare
 before K (keyed r) = K r
@@ -78,23 +67,11 @@ module _ (K : ℕ → List ℕ) where
   step w (closed r) s = add-swap s (shiftRows (K (suc r))) (roundKey w (suc r))
   step w (uncovered r) s = add-gone s (shiftRows (K (suc r)))
 
-  last-wholes : (n : ℕ) → last (K 0) (map (maskBy K) (wholes n)) ≡ K n
-  unfolding wholes last maskBy
-  last-wholes zero = refl
-  last-wholes (suc n) = rw (map-append, last-append)
-
-  linked-wholes : (n : ℕ) → Linked (before K) (maskBy K) (K 0) (wholes n)
-  unfolding wholes before maskBy
-  linked-wholes zero = tt
-  linked-wholes (suc n) =
-      linked-append (before K) (maskBy K) (wholes n) (whole n) (K 0) (linked-wholes n)
-      (sym (last-wholes n), (refl, (refl, (refl, (refl, tt)))))
-
   linked : (n : ℕ) → Linked (before K) (maskBy K) (K 0) (wholes n ++ final n)
-  unfolding before maskBy
+  unfolding wholes last before maskBy
   linked n =
-      linked-append (before K) (maskBy K) (wholes n) (final n) (K 0) (linked-wholes n)
-      (sym (last-wholes n), (refl, (refl, (refl, (refl, tt)))))
+      linked-rounds (before K) (maskBy K) wholes whole refl (λ n. refl) K (λ n. (refl, (refl, (refl, (refl, (refl, tt)))))) (λ n. refl) n (final n)
+      (refl, (refl, (refl, (refl, (refl, tt)))))
 
   pub relation-any : (w : List ℕ) (nr : ℕ) (b : List ℕ)
       → run (coveredBy K w) b (points nr) ≡ summed (plainRecord nr w b) (map (maskBy K) (points nr))

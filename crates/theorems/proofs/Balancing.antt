@@ -5,7 +5,7 @@ use mathlib.Core.Bool.{true, not, _&&_}
 use Prim.Native.Nat.{ℕ, zero, suc, _+_, _*_, _/_, _%_, _^_, _<_}
 use native.Mathlib.Omega.{arith}
 use native.Mathlib.Decide.{ℕ-discrete, decLt}
-use lib.Dec.{T, eqb, eqb→eq}
+use lib.Dec.{T, eqb, eqb→eq, lit<}
 use lib.Bits.{xor-shr, xor-mod, xor-block, xor-lt}
 use mir.Facts.{and-yes, eqb-no}
 use borrow.Author.Tests.{eq-eqb, ne-eqb}
@@ -169,3 +169,13 @@ balanced-turn f b zero = record { twice = b .twice }
 balanced-turn f b (suc c) =
     balanced-same (λ o. f ((o + suc c) % 16)) (λ o. f (((o + 1) % 16 + c) % 16)) (λ o h. ap f (later o c))
     (turned-once (λ o. f ((o + c) % 16)) (balanced-turn f b c))
+
+-- So what is not balanced is not so from another offset on and under a fixed byte either: if the upper three bits of g are not 111
+-- twice, f is not balanced.
+pub upper-unbalanced : (f g : ℕ → ℕ) (c d n : ℕ) → ((o : ℕ) → o < 16 → f o ≡ c ⊕ g ((o + d) % 16)) → times g 5 6 7 7 ≡ n → (n ≡ 2 → ⊥) → Balanced f → ⊥
+unfolding different
+upper-unbalanced f g c d n e found other b =
+    let under : Balanced (λ o. c ⊕ g ((o + d) % 16)) = balanced-same (λ o. c ⊕ g ((o + d) % 16)) f (λ o h. sym (e o h)) b in
+    let turned = balanced-turn (λ o. g ((o + d) % 16)) (balanced-back c (λ o. g ((o + d) % 16)) under) (15 * d) in
+    let around : Balanced g = balanced-same g _ (λ o h. ap g (omega arith)) turned in
+    other (sym found ∙ around .twice 5 6 7 7 (lit< tt) (lit< tt) (lit< tt) tt (lit< tt))

@@ -3,87 +3,59 @@
 -- Assumes nothing.
 use mathlib.Core.Path.{_≡_, refl, sym, ap, _∙_}
 use mathlib.Core.Bool.{Bool, true, false, not, _||_}
-use mathlib.Core.List.{List, [], _∷_, _++_, append-assoc}
-use Prim.Native.Nat.{ℕ, zero, suc, _+_, _-_, _*_, _%_, _≤_, _<_}
+use mathlib.Core.List.{List, []}
+use Prim.Native.Nat.{ℕ, suc, _+_, _*_, _%_, _≤_, _<_}
 use native.Mathlib.Nat.{mul-suc, zero-mul}
 use native.Mathlib.Omega.{arith}
-use native.Mathlib.Decide.{ℕ-discrete}
 use lib.Dec.{T, eqb, eqb→eq, lit<}
 use mir.Facts.{no-eqb}
-use lib.ListN.{length, getD, length-append, List·getD-append}
-use lib.Seq.{getD-append-add}
+use lib.ListN.{length, getD}
 use Rattle.aes.specs.Byte.{_⊕_, table, below}
 use Rattle.aes.specs.State.{at}
-use Rattle.aes.specs.Record.{Point, block, keyed, boxed, whole, final, wholes, points, cipherAt}
+use Rattle.aes.specs.Record.{block, keyed, boxed, points, cipherAt}
 use Rattle.aes.specs.Reply.{taken}
 use Rattle.aes.proofs.Below.{under}
 use Rattle.aes.proofs.Xor.{sums, xor-self}
 use Rattle.aes.proofs.Listed.{table-at}
 use Rattle.masks.specs.Mask.{_⊞_, published, label, mask}
 use Rattle.masks.specs.Order.{boxOrder, natural, between}
-use Rattle.masked.specs.Run.{maskedRecord}
+use Rattle.runs.specs.Run.{maskedRecord}
 use Rattle.masked.specs.Calls.{blockAt, recordMaskedOf}
 use Rattle.masks.proofs.Ordered.{order-below, lucky}
-use Rattle.theorems.specs.MaskTable.{maskAt}
+use Rattle.theorems.specs.MaskTable.{maskBy, maskAt}
 use Rattle.theorems.specs.Neighbours.{betweenStates, betweenRecorded, betweenBare, betweenMasks}
 use Rattle.theorems.proofs.Relation.{mask-entry, relation-cipher}
-use Rattle.theorems.proofs.RecordStates.{add-at, published-length, masked-states}
-
--- the points of round r: state 5 r + 1 is that after its key, and the next that after its boxes
-wholes-length : (n : ℕ) → length (wholes n) ≡ 5 * n
-unfolding wholes
-wholes-length zero = refl
-wholes-length (suc n) = length-append (wholes n) (whole n) ∙ omega (arith, wholes-length n)
-
-abbrev begun : ℕ → List Point → List Point
-begun r ps = keyed r ∷ boxed r ∷ ps
-
-round-here : (n r i : ℕ) (ps : List Point) → r ≡ n → i < 2 → getD (wholes n ++ begun n ps) (5 * r + i) block ≡ getD (begun r []) i block
-round-here n r i ps e h =
-    let there : 5 * r + i ≡ length (wholes n) + i = rw (wholes-length n, e) in
-    rw there (getD-append-add (wholes n) (begun n ps) i block ∙ List·getD-append (begun n []) ps block i h ∙ ap (λ (m : ℕ). getD (begun m []) i block) (sym e))
-
-round-in : (n r i : ℕ) (ps : List Point) → r ≤ n → i < 2 → getD (wholes n ++ begun n ps) (5 * r + i) block ≡ getD (begun r []) i block
-unfolding wholes
-round-in zero r i ps le h = round-here 0 r i ps (omega arith) h
-round-in (suc n) r i ps le h =
-    elim (ℕ-discrete r (suc n)) [
-      | yes e ↦ round-here (suc n) r i ps e h
-      | no e ↦ rw (append-assoc (wholes n) (whole n) (begun (suc n) ps)) (round-in n r i _ (omega arith) h)
-    ]
-
-round-at : (nr r i q : ℕ) → r < nr → i < 2 → q ≡ suc (5 * r + i) → getD (points nr) q block ≡ getD (begun r []) i block
-unfolding points
-round-at nr r i q lt h e = rw e (round-in (nr - 1) r i _ (omega arith) h)
-
-round-within : (nr r : ℕ) → r < nr → 5 * r + 2 < length (points nr)
-unfolding points
-round-within nr r lt = rw (length-append (wholes (nr - 1)) (final (nr - 1)), wholes-length (nr - 1)) (omega arith)
+use Rattle.theorems.proofs.States.{add-at}
+use Rattle.theorems.proofs.RecordStates.{published-length, masked-states}
+use Rattle.theorems.proofs.RoundPoints.{keyed-at, boxed-at, within-run}
 
 -- Any order of the boxes, any masks.
 module _ (order : List ℕ) (positions : (k : ℕ) → k < 16 → at order k < 16) where
-  between-add : (s m t n : List ℕ) (k : ℕ) → k < 15 → between order (s ⊞ m) (t ⊞ n) k ≡ between order s t k ⊕ between order m n k
-  between-add s m t n k h =
-      rw (add-at t n (at order k) (positions k (omega arith)), add-at s m (at order (k + 1)) (positions (k + 1) (omega arith))) (simp sums)
+  -- in states that lie, each at its point, under a mask: at two points one after the other the xor of two bytes, under that of their masks
+  pub between-points : {P : Type 0} (there mask : P → List ℕ) (none : P) (ps : List P) (states : ℕ → List ℕ)
+      → ((q : ℕ) → q < length ps → states q ≡ there (getD ps q none) ⊞ mask (getD ps q none))
+      → (q : ℕ) → q + 1 < length ps → (p p′ : P) → getD ps q none ≡ p → getD ps (q + 1) none ≡ p′ → (k : ℕ) → k < 15
+      → between order (states q) (states (q + 1)) k ≡ between order (there p) (there p′) k ⊕ between order (mask p) (mask p′) k
+  between-points there mask none ps states covered q within p p′ e e′ k h =
+      let taken : states q ≡ there p ⊞ mask p = covered q (omega arith) ∙ rw e in
+      let given : states (q + 1) ≡ there p′ ⊞ mask p′ = covered (q + 1) within ∙ rw e′ in
+      rw (taken, given, add-at (there p′) (mask p′) (at order k) (positions k (omega arith)), add-at (there p) (mask p) (at order (k + 1)) (positions (k + 1) (omega arith)))
+      (simp sums)
 
   module _ (M : List ℕ) (o d : ℕ) (w b : List ℕ) (r k : ℕ) (hk : k < 15) where
     -- in a run of any number of rounds: the xor of the two bytes of CIPHER, under the xor of their masks
     pub between-states : (nr : ℕ) → r < nr
-        → betweenStates order (maskedRecord nr M o d w b) r k ≡ betweenBare order w b r k ⊕ betweenMasks order M o d r k
+        → betweenStates order (maskedRecord nr M o d w b) (5 * r + 1) k ≡ betweenBare order w b r k ⊕ betweenMasks order M o d r k
     between-states nr hr =
-        let within = round-within nr r hr in
-        let taken : getD (maskedRecord nr M o d w b) (5 * r + 1) [] ≡ cipherAt w b (keyed r) ⊞ maskAt M o d (keyed r) =
-        relation-cipher M o d w nr b (5 * r + 1) (omega arith) ∙ rw (round-at nr r 0 (5 * r + 1) hr (omega arith) (omega arith)) in
-        let given : getD (maskedRecord nr M o d w b) (5 * r + 2) [] ≡ cipherAt w b (boxed r) ⊞ maskAt M o d (boxed r) =
-        relation-cipher M o d w nr b (5 * r + 2) within ∙ rw (round-at nr r 1 (5 * r + 2) hr (omega arith) (omega arith)) in
-        rw (taken, given) (between-add _ _ _ _ k hk)
+        between-points (cipherAt w b) (maskAt M o d) block (points nr) (λ q. getD (maskedRecord nr M o d w b) q []) (relation-cipher M o d w nr b) (5 * r + 1)
+        (within-run nr r hr) (keyed r) (boxed r) (keyed-at nr r hr) (boxed-at nr r hr) k hk
 
     -- the same of the states that record_masked writes
     pub between-recorded : length M ≡ 16 → (states : List ℕ) → length w ≡ 240 → length b ≡ 16 → length states ≡ 1136 → o ≤ 15 → T (taken d) → r < 14
-        → betweenRecorded order (recordMaskedOf w b M o d states .1) r k ≡ betweenBare order w b r k ⊕ betweenMasks order M o d r k
+        → betweenRecorded order (recordMaskedOf w b M o d states .1) (5 * r + 1) k ≡ betweenBare order w b r k ⊕ betweenMasks order M o d r k
     between-recorded lm states lw lb ls ho t hr =
-        let written : (q : ℕ) → q < 71 → blockAt q (recordMaskedOf w b M o d states .1) ≡ getD (maskedRecord 14 M o d w b) q [] = masked-states w b states lw lb ls M lm o ho d t in
-        (λ i. between order (written (5 * r + 1) (omega arith) i) (written (5 * r + 2) (omega arith) i) k) ∙ between-states 14 hr
+        let written : (q : ℕ) → blockAt q (recordMaskedOf w b M o d states .1) ≡ getD (maskedRecord 14 M o d w b) q [] = masked-states w b states lw lb ls M lm o ho d t in
+        (λ i. between order (written (5 * r + 1) i) (written (5 * r + 1 + 1) i) k) ∙ between-states 14 hr
 
 natural-at : (k : ℕ) → k < 16 → at natural k ≡ k
 unfolding table
@@ -94,7 +66,7 @@ natural-below k h = rw (natural-at k h) h
 
 -- where the box that comes next is d places on, the mask that is given is the one that it takes, whatever the masks are
 on : (order M : List ℕ) (o d r k : ℕ) → at order k < 16 → at order (k + 1) < 16 → (at order k + d) % 16 ≡ at order (k + 1) → betweenMasks order M o d r k ≡ 0
-unfolding maskAt
+unfolding maskBy
 on order M o d r k hp hq e =
     let same : label o (d * r + d) (at order k) ≡ label o (d * r) (at order (k + 1)) = ahead o (d * r) d (at order k) (at order (k + 1)) e in
     rw (mask-entry M o (d * suc r) (at order k) hp, mask-entry M o (d * r) (at order (k + 1)) hq, mul-suc, same) (xor-self (at M (label o (d * r) (at order (k + 1)))))
@@ -102,17 +74,16 @@ on order M o d r k hp hq e =
     ahead : (o n d p q : ℕ) → (p + d) % 16 ≡ q → label o (n + d) p ≡ label o n q
     ahead o n d p q e = omega arith
 
-module _ (o : ℕ) (w b : List ℕ) (r k : ℕ) (hk : k < 15) where
-  -- In the order that every masked run reads, with the published masks and any step that is taken, that mask is never 00.
-  module _ (d : ℕ) (t : T (taken d)) where
-    never-bare : betweenMasks boxOrder published o d r k ≡ 0 → ⊥
-    unfolding maskAt
-    never-bare = rw mul-suc (lucky o (d * r) d k t hk)
+-- In the order that every masked run reads, with the published masks and any step that is taken, that mask is never 00.
+pub never-bare : (o d r k : ℕ) → T (taken d) → k < 15 → betweenMasks boxOrder published o d r k ≡ 0 → ⊥
+unfolding maskBy
+never-bare o d r k t hk = rw mul-suc (lucky o (d * r) d k t hk)
 
-    pub even-first : (nr : ℕ) → r < nr
-        → (betweenStates boxOrder (maskedRecord nr published o d w b) r k ≡ betweenBare boxOrder w b r k ⊕ betweenMasks boxOrder published o d r k)
-        × (betweenMasks boxOrder published o d r k ≡ 0 → ⊥)
-    even-first nr hr = (between-states boxOrder order-below published o d w b r k hk nr hr, never-bare)
+module _ (o : ℕ) (w b : List ℕ) (r k : ℕ) (hk : k < 15) where
+  pub even-first : (d : ℕ) → T (taken d) → (nr : ℕ) → r < nr
+      → (betweenStates boxOrder (maskedRecord nr published o d w b) (5 * r + 1) k ≡ betweenBare boxOrder w b r k ⊕ betweenMasks boxOrder published o d r k)
+      × (betweenMasks boxOrder published o d r k ≡ 0 → ⊥)
+  even-first d t nr hr = (between-states boxOrder order-below published o d w b r k hk nr hr, never-bare o d r k t hk)
 
   -- In natural order, with step 1 and whatever the masks are, it is always 00.
   always-bare : (M : List ℕ) → betweenMasks natural M o 1 r k ≡ 0
@@ -121,19 +92,19 @@ module _ (o : ℕ) (w b : List ℕ) (r k : ℕ) (hk : k < 15) where
       (rw (natural-at k (omega arith), natural-at (k + 1) (omega arith)) (omega arith))
 
   pub natural-bare : (nr : ℕ) → r < nr → (M : List ℕ)
-      → (betweenStates natural (maskedRecord nr M o 1 w b) r k ≡ betweenBare natural w b r k ⊕ betweenMasks natural M o 1 r k)
+      → (betweenStates natural (maskedRecord nr M o 1 w b) (5 * r + 1) k ≡ betweenBare natural w b r k ⊕ betweenMasks natural M o 1 r k)
       × (betweenMasks natural M o 1 r k ≡ 0)
   natural-bare nr hr M = (between-states natural natural-below M o 1 w b r k hk nr hr, always-bare M)
 
   -- both of what record_masked writes
   module _ (states : List ℕ) (lw : length w ≡ 240) (lb : length b ≡ 16) (ls : length states ≡ 1136) (ho : o ≤ 15) (hr : r < 14) where
     pub even-first-recorded : (d : ℕ) → T (taken d)
-        → (betweenRecorded boxOrder (recordMaskedOf w b published o d states .1) r k ≡ betweenBare boxOrder w b r k ⊕ betweenMasks boxOrder published o d r k)
+        → (betweenRecorded boxOrder (recordMaskedOf w b published o d states .1) (5 * r + 1) k ≡ betweenBare boxOrder w b r k ⊕ betweenMasks boxOrder published o d r k)
         × (betweenMasks boxOrder published o d r k ≡ 0 → ⊥)
-    even-first-recorded d t = (between-recorded boxOrder order-below published o d w b r k hk published-length states lw lb ls ho t hr, never-bare d t)
+    even-first-recorded d t = (between-recorded boxOrder order-below published o d w b r k hk published-length states lw lb ls ho t hr, never-bare o d r k t hk)
 
     pub natural-bare-recorded : (M : List ℕ) → length M ≡ 16
-        → (betweenRecorded natural (recordMaskedOf w b M o 1 states .1) r k ≡ betweenBare natural w b r k ⊕ betweenMasks natural M o 1 r k)
+        → (betweenRecorded natural (recordMaskedOf w b M o 1 states .1) (5 * r + 1) k ≡ betweenBare natural w b r k ⊕ betweenMasks natural M o 1 r k)
         × (betweenMasks natural M o 1 r k ≡ 0)
     natural-bare-recorded M lm = (between-recorded natural natural-below M o 1 w b r k hk lm states lw lb ls ho tt hr, always-bare M)
 
@@ -164,5 +135,5 @@ module _ (M : List ℕ) (o r : ℕ) where
 
   -- With step 0 one mask lies on the state before and after the boxes, and in all rounds.
   pub step-zero-stays : (maskAt M o 0 (boxed r) ≡ maskAt M o 0 (keyed r)) × (maskAt M o 0 (keyed r) ≡ mask M o 0)
-  unfolding maskAt
+  unfolding maskBy
   step-zero-stays = (ap (mask M o) (zero-mul (suc r) ∙ sym (zero-mul r)), ap (mask M o) (zero-mul r))

@@ -1,13 +1,14 @@
 -- What follows for the calls, through their promises.
 -- Assumes nothing.
-use mathlib.Core.Path.{_≡_, ap}
+use mathlib.Core.Path.{_≡_, ap, _∙_}
+use mathlib.Core.Bool.{Bool, true, false, cond}
 use mathlib.Core.List.{List}
 use Prim.Native.Nat.{ℕ}
 use lib.ListN.{length}
 use borrow.Author.Tests.{eq-eqb}
 use Rattle.aes.specs.State.{Bytes}
 use Rattle.aes.specs.Cipher.{cipher, invCipher}
-use Rattle.aes.specs.Calls.{encryptOf, decryptOf}
+use Rattle.aes.specs.Calls.{blockOf, encryptOf, decryptOf}
 use Rattle.theorems.proofs.RoundTrip.{inv-cipher-cipher, cipher-inv-cipher}
 use Rattle.aes.proofs.Undo.{add-size}
 
@@ -15,31 +16,34 @@ pub cipher-size : (nr : ℕ) (w block : List ℕ) → length (cipher nr w block)
 unfolding cipher
 cipher-size nr w block = add-size _ _
 
-inv-cipher-size : (nr : ℕ) (w block : List ℕ) → length (invCipher nr w block) ≡ 16
+pub inv-cipher-size : (nr : ℕ) (w block : List ℕ) → length (invCipher nr w block) ≡ 16
 unfolding invCipher
 inv-cipher-size nr w block = add-size _ _
+
+-- what either call writes: a decryption where back is true
+abbrev made : Bool → List ℕ → List ℕ → List ℕ
+made back w block = cond back (invCipher 14 w block) (cipher 14 w block)
+
+made-size : (back : Bool) (w block : List ℕ) → length (made back w block) ≡ 16
+made-size true w block = inv-cipher-size 14 w block
+made-size false w block = cipher-size 14 w block
 
 -- Under any 240 bytes: decrypting what encrypting wrote gives the block back, and the reverse.
 module _ {w block : List ℕ} (hw : Bytes 240 w) (hb : Bytes 16 block) (first second : List ℕ) (lf : length first ≡ 16)
     (ls : length second ≡ 16) where
-  pub decrypt-encrypt : decryptOf w (encryptOf w block first .1) second ≡ (0, block)
-  decrypt-encrypt =
+  -- both calls answer 0
+  done : (back again : Bool) → blockOf again w (blockOf back w block first .1) second ≡ (0, made again w (made back w block))
+  done back again =
       simp (
         eq-eqb (length w) 240 (hw .size),
         eq-eqb (length block) 16 (hb .size),
         eq-eqb (length first) 16 lf,
         eq-eqb (length second) 16 ls,
-        eq-eqb (length (cipher 14 w block)) 16 (cipher-size 14 w block),
+        eq-eqb (length (made back w block)) 16 (made-size back w block),
       )
-      (ap (λ (l : List ℕ). (0, l)) (inv-cipher-cipher 240 w hw 14 hb))
+
+  pub decrypt-encrypt : decryptOf w (encryptOf w block first .1) second ≡ (0, block)
+  decrypt-encrypt = done false true ∙ ap (λ (l : List ℕ). (0, l)) (inv-cipher-cipher 240 w hw 14 hb)
 
   pub encrypt-decrypt : encryptOf w (decryptOf w block first .1) second ≡ (0, block)
-  encrypt-decrypt =
-      simp (
-        eq-eqb (length w) 240 (hw .size),
-        eq-eqb (length block) 16 (hb .size),
-        eq-eqb (length first) 16 lf,
-        eq-eqb (length second) 16 ls,
-        eq-eqb (length (invCipher 14 w block)) 16 (inv-cipher-size 14 w block),
-      )
-      (ap (λ (l : List ℕ). (0, l)) (cipher-inv-cipher 240 w hw 14 hb))
+  encrypt-decrypt = done true false ∙ ap (λ (l : List ℕ). (0, l)) (cipher-inv-cipher 240 w hw 14 hb)

@@ -11,9 +11,9 @@ use Rattle.aes.specs.Cipher.{cipher}
 use Rattle.aes.specs.Record.{wholes, points, cipherAt}
 use Rattle.aes.specs.Calls.{encryptOf}
 use Rattle.masks.specs.Mask.{published, _⊞_, mask}
-use Rattle.masked.specs.Run.{maskedRecord}
+use Rattle.runs.specs.Run.{maskedRecord}
 use Rattle.beside.specs.Stored.{stored, convertOf}
-use Rattle.theorems.specs.MaskTable.{maskAt}
+use Rattle.theorems.specs.MaskTable.{maskBy}
 use Rattle.theorems.proofs.CallLaws.{cipher-size}
 use Rattle.theorems.proofs.AnyMasks.{add-change, add-gone}
 use Rattle.theorems.proofs.Relation.{relation-cipher}
@@ -30,7 +30,7 @@ add-twice s m l = add-gone s m ∙ add-none s l
 -- what is stored is what a run ends with that adds the constant which document 002 prints: the mask is left on the block
 pub stored-is : (w b : List ℕ) (o : ℕ)
     → getD (maskedRecord 14 published o 1 w b) 69 [] ⊞ (mask published o 14 ⊞ shiftRows (mask published o 14)) ≡ stored o (cipher 14 w b)
-unfolding points wholes maskAt cipherAt cipher
+unfolding points wholes maskBy cipherAt cipher
 stored-is w b o =
     ap (λ (s : List ℕ). s ⊞ (mask published o 14 ⊞ shiftRows (mask published o 14))) (relation-cipher published o 1 w 14 b 69 (rw seventy-one (omega arith)))
     ∙ add-change (cipher 14 w b) (shiftRows (mask published o 14)) (mask published o 14)

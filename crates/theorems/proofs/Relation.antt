@@ -1,6 +1,6 @@
 -- The relation: the states of a masked run are those of the plain run, each under the mask of its point.
 -- Assumes nothing.
-use mathlib.Core.Path.{_≡_, refl, sym, ap, fun-ext, _∙_}
+use mathlib.Core.Path.{_≡_, refl, ap, fun-ext, _∙_}
 use mathlib.Core.List.{List, [], map}
 use Prim.Native.Nat.{ℕ, suc, _+_, _*_, _%_, _<_}
 use native.Mathlib.Nat.{mul-zero, mul-suc}
@@ -13,17 +13,13 @@ use Rattle.aes.specs.Record.{Point, block, keyed, boxed, shifted, mixed, compen
 use Rattle.aes.proofs.Listed.{table-at, table-same}
 use Rattle.theorems.proofs.PlainRecord.{record-is}
 use Rattle.masks.specs.Mask.{_⊞_, label, mask, maskedBox, compensation}
-use Rattle.masked.specs.Run.{covered, maskedRecord}
-use Rattle.theorems.specs.MaskTable.{maskAt, summed}
+use Rattle.runs.specs.Run.{covered, maskedRecord}
+use Rattle.theorems.specs.MaskTable.{stepping, maskAt, summed}
 use Rattle.theorems.proofs.Cover.{at-summed, map-at}
-use Rattle.theorems.proofs.AnyMasks.{coveredBy, maskBy, relation-any}
+use Rattle.theorems.proofs.AnyMasks.{coveredBy, relation-any}
 
 pub plain-at : (w b : List ℕ) (nr q : ℕ) → q < length (points nr) → getD (plainRecord nr w b) q [] ≡ cipherAt w b (getD (points nr) q block)
 plain-at w b nr q h = rw (record-is w b nr) (map-at (cipherAt w b) (points nr) q block h)
-
--- The masks of a run at offset o over the table M, whose labels advance by d.
-abbrev pub stepping : List ℕ → ℕ → ℕ → ℕ → List ℕ
-stepping M o d r = mask M o (d * r)
 
 pub mask-entry : (M : List ℕ) (o k i : ℕ) → i < 16 → at (mask M o k) i ≡ at M (label o k i)
 unfolding mask table
@@ -37,39 +33,30 @@ same : (o i k : ℕ) → label o k i % 16 ≡ label o k i
 same o i k = omega arith
 
 -- the box over byte i takes it from the mask of round r to that of the next
-label-at : (M : List ℕ) (o d r x i : ℕ) → i < 16 → maskedBox M d (label o (d * r) i) x ≡ sBox (x ⊕ at (stepping M o d r) i) ⊕ at (stepping M o d (suc r)) i
+label-at : (S : ℕ → ℕ) (M : List ℕ) (o d r x i : ℕ) → i < 16 → maskedBox S M d (label o (d * r) i) x ≡ S (x ⊕ at (stepping M o d r) i) ⊕ at (stepping M o d (suc r)) i
 unfolding maskedBox
-label-at M o d r x i h =
+label-at S M o d r x i h =
     rw (mask-entry M o (d * r) i h, mask-entry M o (d * suc r) i h, mul-suc, same o i (d * r), next o i (d * r) d)
 
-module _ (M : List ℕ) (o d : ℕ) where
-  boxes-are : (r : ℕ) (s : List ℕ) → state (λ i. maskedBox M d (label o (d * r) i) (at s i)) ≡ subBytes (s ⊞ stepping M o d r) ⊞ stepping M o d (suc r)
-  unfolding subBytes addRoundKey table
-  boxes-are r s =
-      table-same (λ i. maskedBox M d (label o (d * r) i) (at s i)) (λ i. sBox (at s i ⊕ at (stepping M o d r) i) ⊕ at (stepping M o d (suc r)) i) 16
-      (λ i h. label-at M o d r (at s i) i h)
+-- so the boxes of a round do what S does to each byte, or its inverse
+pub boxes-are : (S : ℕ → ℕ) (M : List ℕ) (o d r : ℕ) (s : List ℕ)
+    → state (λ i. maskedBox S M d (label o (d * r) i) (at s i)) ≡ state (λ i. S (at s i ⊕ at (stepping M o d r) i) ⊕ at (stepping M o d (suc r)) i)
+unfolding table
+boxes-are S M o d r s =
+    table-same (λ i. maskedBox S M d (label o (d * r) i) (at s i)) (λ i. S (at s i ⊕ at (stepping M o d r) i) ⊕ at (stepping M o d (suc r)) i) 16
+    (λ i h. label-at S M o d r (at s i) i h)
 
+module _ (M : List ℕ) (o d : ℕ) where
   covered-is : (w : List ℕ) (p : Point) (s : List ℕ) → covered M o d w p s ≡ coveredBy (stepping M o d) w p s
-  unfolding covered coveredBy compensation
+  unfolding covered coveredBy compensation subBytes addRoundKey
   covered-is w block s = rw mul-zero
   covered-is w (keyed r) s = refl
-  covered-is w (boxed r) s = boxes-are r s
+  covered-is w (boxed r) s = boxes-are sBox M o d r s
   covered-is w (shifted r) s = refl
   covered-is w (mixed r) s = refl
   covered-is w (compensated r) s = refl
   covered-is w (closed r) s = refl
   covered-is w (uncovered r) s = refl
-
-  pub maskAt-is : (p : Point) → maskAt M o d p ≡ maskBy (stepping M o d) p
-  unfolding maskAt maskBy
-  maskAt-is block = rw mul-zero
-  maskAt-is (keyed r) = refl
-  maskAt-is (boxed r) = refl
-  maskAt-is (shifted r) = refl
-  maskAt-is (mixed r) = refl
-  maskAt-is (compensated r) = refl
-  maskAt-is (closed r) = refl
-  maskAt-is (uncovered r) = refl
 
   module _ (w : List ℕ) (nr : ℕ) (b : List ℕ) where
     -- the states of a masked run are those of the plain run, each under the mask of its point
@@ -78,7 +65,6 @@ module _ (M : List ℕ) (o d : ℕ) where
     relation =
         ap (λ (f : Point → List ℕ → List ℕ). run f b (points nr)) (fun-ext (λ p. fun-ext (λ s. covered-is w p s)))
         ∙ relation-any (stepping M o d) w nr b
-        ∙ ap (λ (f : Point → List ℕ). summed (plainRecord nr w b) (map f (points nr))) (fun-ext (λ p. sym (maskAt-is p)))
 
     -- so state q is plain state q under the mask of point q; and that of CIPHER
     pub relation-at : (q : ℕ) → q < length (points nr)

@@ -2,7 +2,7 @@
 -- Assumes nothing.
 use mathlib.Core.Path.{_≡_, refl, sym, ap, _∙_}
 use mathlib.Core.Bool.{Bool, true, false}
-use mathlib.Core.List.{List, [], _∷_, _++_, map, map-append}
+use mathlib.Core.List.{List, [], _∷_, _++_, map}
 use Prim.Native.Nat.{ℕ, suc, _-_, _*_, _≤_}
 use native.Mathlib.Decide.{decLt}
 use native.Mathlib.Omega.{arith}
@@ -19,15 +19,14 @@ use Rattle.aes.specs.Calls.{encryptOf}
 use Rattle.aes.proofs.Xor.{xor-zero}
 use Rattle.aes.proofs.Listed.{table-at}
 use Rattle.aes.proofs.Undo.{state-at}
-use Rattle.aes.proofs.Written.{last-append}
 use Rattle.aes.proofs.PlainRun.{plain-sized}
 use Rattle.masks.specs.Mask.{published, _⊞_, mask}
-use Rattle.masked.specs.Run.{maskedRecord, maskedCipher}
-use Rattle.theorems.specs.MaskTable.{bare, maskAt, summed}
+use Rattle.runs.specs.Run.{maskedRecord, maskedCipher}
+use Rattle.theorems.specs.MaskTable.{bare, maskBy, maskAt, summed}
 use Rattle.masked.specs.Calls.{encryptMaskedOf, encryptPublishedOf}
 use Rattle.theorems.proofs.CallLaws.{cipher-size}
 use Rattle.theorems.proofs.PlainRecord.{record-last}
-use Rattle.theorems.proofs.Cover.{last-summed}
+use Rattle.theorems.proofs.Cover.{last-map, last-summed}
 use Rattle.theorems.proofs.Relation.{relation}
 
 -- what holds is true
@@ -37,15 +36,13 @@ is-true false t = absurd t
 
 -- no mask lies on the finished block
 last-mask : (M : List ℕ) (o d n : ℕ) (m : List ℕ) → last m (map (maskAt M o d) (points (suc n))) ≡ bare
-unfolding points last maskAt
-last-mask M o d n m =
-    let e : suc n - 1 ≡ n = omega arith in
-    rw (e, map-append (maskAt M o d) (block ∷ wholes n) (final n), last-append)
+unfolding points last maskBy
+last-mask M o d n m = let e : suc n - 1 ≡ n = omega arith in rw e (last-map (maskAt M o d) (block ∷ wholes n) (final n) m)
 
 last-state : (M : List ℕ) (o d : ℕ) (w : List ℕ) (nr : ℕ) (b : List ℕ)
     → last b (summed (plainRecord nr w b) (map (maskAt M o d) (points nr))) ≡ last b (plainRecord nr w b) ⊞ last b (map (maskAt M o d) (points nr))
-unfolding points run summed last plain plainRecord maskAt
-last-state M o d w nr b = last-summed (plain w) (maskAt M o d) (wholes (nr - 1) ++ final (nr - 1)) (mask M o 0) b
+unfolding points run summed last plain plainRecord maskBy
+last-state M o d w nr b = last-summed (plain w) (maskAt M o d) (wholes (nr - 1) ++ final (nr - 1)) (mask M o (d * 0)) b
 
 -- nothing is left by no mask
 pub add-none : (s : List ℕ) → length s ≡ 16 → s ⊞ bare ≡ s
@@ -80,8 +77,8 @@ unfolding mixColumns dot _•_ times xTimes
 mixed-none = refl
 
 maskAt-bare : (o d : ℕ) (p : Point) → maskAt bare o d p ≡ bare
-unfolding maskAt
-maskAt-bare o d block = zero-mask o 0
+unfolding maskBy
+maskAt-bare o d block = zero-mask o (d * 0)
 maskAt-bare o d (keyed r) = zero-mask o (d * r)
 maskAt-bare o d (boxed r) = zero-mask o (d * suc r)
 maskAt-bare o d (shifted r) = rw zero-mask shifted-none

@@ -1,26 +1,13 @@
 -- The S-box and its inverse undo each other, and so do SUBBYTES and INVSUBBYTES.
 -- Assumes nothing.
-use mathlib.Core.Path.{_≡_, refl}
+use mathlib.Core.Path.{_≡_}
 use mathlib.Core.List.{List}
 use Prim.Native.Nat.{ℕ, _<_}
-use Rattle.aes.specs.Byte.{table}
 use Rattle.aes.specs.Box.{sBox, invSBox}
 use Rattle.aes.specs.State.{at, subBytes, invSubBytes, Bytes}
-use Rattle.aes.proofs.Listed.{Inverted, place-below, place-right, place-only}
-use Rattle.aes.proofs.Boxes.{boxes, boxes-are}
+use Rattle.aes.proofs.Listed.{place-right, place-only}
+use Rattle.aes.proofs.Boxes.{inverted, invSBox-byte}
 use Rattle.aes.proofs.Undo.{state-at, state-bytes}
-
--- the test over all 256 entries: each byte stands in the box, and once
-test : Inverted (λ b. b) 256 boxes
-unfolding boxes
-test = (refl, refl, refl)
-
-inverted : Inverted (λ b. b) 256 (table sBox 256)
-inverted = rw boxes-are test
-
-pub invSBox-byte : (b : ℕ) → b < 256 → invSBox b < 256
-unfolding invSBox
-invSBox-byte = place-below sBox (λ b. b) 256 inverted
 
 pub sBox-invSBox : (b : ℕ) → b < 256 → sBox (invSBox b) ≡ b
 unfolding invSBox

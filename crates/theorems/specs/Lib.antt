@@ -1,3 +1,5 @@
 pub mod MaskTable
 pub mod Neighbours
 pub mod Balance
+pub mod BackTable
+pub mod Ways

@@ -10,16 +10,23 @@ use Rattle.masks.specs.Mask.{_⊞_, mask}
 abbrev pub bare : List ℕ
 bare = state (λ i. 0)
 
--- the mask that lies on the state at each point of a run, whose labels advance by d from round to round
-unfoldable pub maskAt : List ℕ → ℕ → ℕ → Point → List ℕ
-maskAt M o d block = mask M o 0
-maskAt M o d (keyed r) = mask M o (d * r)
-maskAt M o d (boxed r) = mask M o (d * suc r)
-maskAt M o d (shifted r) = shiftRows (mask M o (d * suc r))
-maskAt M o d (mixed r) = mixColumns (shiftRows (mask M o (d * suc r)))
-maskAt M o d (compensated r) = mask M o (d * suc r)
-maskAt M o d (closed r) = shiftRows (mask M o (d * suc r))
-maskAt M o d (uncovered r) = bare
+-- the mask at each point over any sequence K of masks, where K r lies on the state that round r begins with
+unfoldable pub maskBy : (ℕ → List ℕ) → Point → List ℕ
+maskBy K block = K 0
+maskBy K (keyed r) = K r
+maskBy K (boxed r) = K (suc r)
+maskBy K (shifted r) = shiftRows (K (suc r))
+maskBy K (mixed r) = mixColumns (shiftRows (K (suc r)))
+maskBy K (compensated r) = K (suc r)
+maskBy K (closed r) = shiftRows (K (suc r))
+maskBy K (uncovered r) = bare
+
+-- the sequence of a run at offset o over the masks M, whose labels advance by d from round to round, and so its mask at each point
+abbrev pub stepping : List ℕ → ℕ → ℕ → ℕ → List ℕ
+stepping M o d r = mask M o (d * r)
+
+abbrev pub maskAt : List ℕ → ℕ → ℕ → Point → List ℕ
+maskAt M o d = maskBy (stepping M o d)
 
 -- two records, state by state
 unfoldable pub summed : List (List ℕ) → List (List ℕ) → List (List ℕ)

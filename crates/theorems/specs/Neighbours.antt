@@ -1,23 +1,34 @@
 -- Two boxes that a round calls one after the other: what the first gives, xored with what the second takes. They stand at the
--- places k and k + 1 of an order; state 5 r + 1 of a record is the one that the boxes of round r take, and the next what they give.
+-- places k and k + 1 of an order. State q of a record is the one that the boxes of round r take, and the next what they give: q is
+-- 5 r + 1 in the record of an encryption, and 6 r + 3 in that of a decryption.
 -- Assumes nothing.
 use mathlib.Core.List.{List, []}
-use Prim.Native.Nat.{ℕ, _+_, _*_}
+use Prim.Native.Nat.{ℕ, _+_}
 use lib.ListN.{getD}
 use Rattle.aes.specs.Record.{keyed, boxed, cipherAt}
 use Rattle.masks.specs.Order.{between}
+use Rattle.runs.specs.Back.{corrected, unboxed}
 use Rattle.masked.specs.Calls.{blockAt}
 use Rattle.theorems.specs.MaskTable.{maskAt}
+use Rattle.theorems.specs.BackTable.{maskBackAt, invCipherAt}
 
--- in the states of a run; in those that record_masked writes; bare, of CIPHER; and of the masks that lie on those two bytes
+-- in the states of a run, and in those that a call has written
 abbrev pub betweenStates : List ℕ → List (List ℕ) → ℕ → ℕ → ℕ
-betweenStates order states r k = between order (getD states (5 * r + 1) []) (getD states (5 * r + 2) []) k
+betweenStates order states q k = between order (getD states q []) (getD states (q + 1) []) k
 
 abbrev pub betweenRecorded : List ℕ → List ℕ → ℕ → ℕ → ℕ
-betweenRecorded order written r k = between order (blockAt (5 * r + 1) written) (blockAt (5 * r + 2) written) k
+betweenRecorded order written q k = between order (blockAt q written) (blockAt (q + 1) written) k
 
+-- bare, of CIPHER, and of the masks that lie on those two bytes
 abbrev pub betweenBare : List ℕ → List ℕ → List ℕ → ℕ → ℕ → ℕ
 betweenBare order w input r k = between order (cipherAt w input (keyed r)) (cipherAt w input (boxed r)) k
 
 abbrev pub betweenMasks : List ℕ → List ℕ → ℕ → ℕ → ℕ → ℕ → ℕ
 betweenMasks order M o d r k = between order (maskAt M o d (keyed r)) (maskAt M o d (boxed r)) k
+
+-- both of a decryption of nr rounds: bare, of INVCIPHER, and of the masks
+abbrev pub betweenBareBack : List ℕ → ℕ → List ℕ → List ℕ → ℕ → ℕ → ℕ
+betweenBareBack order nr w input r k = between order (invCipherAt nr w input (corrected r)) (invCipherAt nr w input (unboxed r)) k
+
+abbrev pub betweenMasksBack : List ℕ → List ℕ → ℕ → ℕ → ℕ → ℕ → ℕ
+betweenMasksBack order M o d r k = between order (maskBackAt M o d (corrected r)) (maskBackAt M o d (unboxed r)) k

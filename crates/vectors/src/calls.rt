@@ -2,35 +2,25 @@
 use aes::reply::DONE;
 use check::same;
 use lines::vector::Vector;
+use lines::vector::Way;
 use lines::vector::same_block;
 
-pub enum Call {
-    Encrypt,
-    Decrypt,
-}
-
-// Whether so many calls, each on the output of the one before, lead from the one block to the other: from the plain block to
-// the cipher block, or back.
-pub fn leads(call: Call, times: usize, v: Vector) -> bool {
+// Whether so many calls, each on the output of the one before, lead from the one block to the other.
+pub fn leads(way: Way, times: usize, v: Vector) -> bool {
     let key = v.key;
-    let plain = v.plain;
-    let cipher = v.cipher;
     let mut schedule = [0u8; 240];
     if aes::expand_key(&key, &mut schedule) != DONE {
         return false;
     }
-    match call {
-        Call::Encrypt => chain(call, times, &schedule, plain, cipher),
-        Call::Decrypt => chain(call, times, &schedule, cipher, plain),
-    }
+    chain(way, times, &schedule, v.start(way), v.end(way))
 }
 
-fn chain(call: Call, times: usize, schedule: &[u8; 240], start: [u8; 16], end: [u8; 16]) -> bool {
+fn chain(way: Way, times: usize, schedule: &[u8; 240], start: [u8; 16], end: [u8; 16]) -> bool {
     let mut block = start;
     let mut i = 0;
     while i < times {
         let mut output = [0u8; 16];
-        if answer(call, schedule, &block, &mut output) != DONE {
+        if answer(way, schedule, &block, &mut output) != DONE {
             return false;
         }
         block = output;
@@ -39,10 +29,10 @@ fn chain(call: Call, times: usize, schedule: &[u8; 240], start: [u8; 16], end: [
     same_block(block, end)
 }
 
-fn answer(call: Call, schedule: &[u8; 240], input: &[u8; 16], output: &mut [u8; 16]) -> u8 {
-    match call {
-        Call::Encrypt => aes::encrypt(schedule, input, output),
-        Call::Decrypt => aes::decrypt(schedule, input, output),
+fn answer(way: Way, schedule: &[u8; 240], input: &[u8; 16], output: &mut [u8; 16]) -> u8 {
+    match way {
+        Way::Encrypt => aes::encrypt(schedule, input, output),
+        Way::Decrypt => aes::decrypt(schedule, input, output),
     }
 }
 

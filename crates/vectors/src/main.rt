@@ -11,7 +11,7 @@ use lines::counts::report;
 use lines::input::read;
 use lines::input::room;
 use lines::text::past;
-use sources::UNKNOWN;
+use sources::one_line;
 
 fn main() {
     let mut text = room();
@@ -22,14 +22,9 @@ fn main() {
 }
 
 fn run(text: &[u8], counts: &mut [u64; CELLS]) {
-    let mut source = UNKNOWN;
-    let mut number = 0;
     let mut at = 0;
     while at < text.len() {
-        number += 1;
-        let rest = &text[at..];
-        source = sources::source(rest, source);
-        report(number, sources::run(rest, source, counts), counts);
+        report(one_line(&text[at..], counts), counts);
         at = past(text, at, b'\n');
     }
 }

@@ -1,6 +1,5 @@
 // The sources: a function for each kind of line reads it, runs the vector, counts, and answers whether the line could be read.
 use crate::c3;
-use crate::calls::Call;
 use crate::calls::expands;
 use crate::calls::leads;
 use crate::stored::converted;
@@ -8,79 +7,45 @@ use crate::table;
 use lines::counts::CELLS;
 use lines::counts::add;
 use lines::counts::count;
-use lines::text::is_header;
+use lines::source::Kind;
+use lines::source::kind_of;
 use lines::text::part;
 use lines::text::read_hex;
-use lines::text::source_of;
 use lines::vector;
-use lines::vector::Vector;
-
-// A source is the place of its header among all headers; this number stands for none of them.
-pub const UNKNOWN: usize = 5;
-
-// What is run of a key and two blocks.
-enum Kind {
-    Ecb,
-    EncryptedChain,
-    DecryptedChain,
-}
-
-// The source of the first line of a text, below one of another source.
-pub fn source(text: &[u8], above: usize) -> usize {
-    let headers = b"\
-# ecb
-# key expansion
-# rounds
-# chain encrypt
-# chain decrypt";
-    source_of(text, above, headers, UNKNOWN)
-}
+use lines::vector::Way;
 
 // Runs the first line of a text, and answers whether it could be read.
-pub fn run(text: &[u8], source: usize, counts: &mut [u64; CELLS]) -> bool {
+pub fn one_line(text: &[u8], counts: &mut [u64; CELLS]) -> bool {
     let line = part(text, 0, b'\n');
-    if is_header(line) {
-        return source != UNKNOWN;
-    }
-    match source {
-        0 => blocks(line, Kind::Ecb, counts),
-        1 => key_expansion(line, counts),
-        2 => c3::state(line, counts),
-        3 => blocks(line, Kind::EncryptedChain, counts),
-        4 => blocks(line, Kind::DecryptedChain, counts),
+    let kind = kind_of(line, counts);
+    match kind {
+        Kind::Header => true,
+        Kind::Ecb => ecb(line, counts),
+        Kind::KeyExpansion => key_expansion(line, counts),
+        Kind::Rounds => c3::state(line, counts),
+        Kind::EncryptedChain => chain(line, Way::Encrypt, table::CHAINS_ENCRYPTED, counts),
+        Kind::DecryptedChain => chain(line, Way::Decrypt, table::CHAINS_DECRYPTED, counts),
         _ => false,
     }
 }
 
-fn blocks(line: &[u8], kind: Kind, counts: &mut [u64; CELLS]) -> bool {
+// Both ways, and as early modules stored it.
+fn ecb(line: &[u8], counts: &mut [u64; CELLS]) -> bool {
     let v = vector::read(line);
     if v.read {
-        match kind {
-            Kind::Ecb => ecb(v, counts),
-            Kind::EncryptedChain => {
-                count(
-                    counts,
-                    table::CHAINS_ENCRYPTED,
-                    leads(Call::Encrypt, 1000, v),
-                )
-            }
-            Kind::DecryptedChain => {
-                count(
-                    counts,
-                    table::CHAINS_DECRYPTED,
-                    leads(Call::Decrypt, 1000, v),
-                )
-            }
-        }
+        count(counts, table::ECB_ENCRYPTED, leads(Way::Encrypt, 1, v));
+        count(counts, table::ECB_DECRYPTED, leads(Way::Decrypt, 1, v));
+        add(counts, table::CONVERTED, converted(v));
     }
     v.read
 }
 
-// Both ways, and as early modules stored it.
-fn ecb(v: Vector, counts: &mut [u64; CELLS]) {
-    count(counts, table::ECB_ENCRYPTED, leads(Call::Encrypt, 1, v));
-    count(counts, table::ECB_DECRYPTED, leads(Call::Decrypt, 1, v));
-    add(counts, table::CONVERTED, converted(v));
+fn chain(line: &[u8], way: Way, row: usize, counts: &mut [u64; CELLS]) -> bool {
+    let v = vector::read(line);
+    if v.read {
+        count(counts, row, leads(way, 1000, v));
+    }
+    v.read
 }
 
 // A key and its schedule.

@@ -1,14 +1,13 @@
 // Masked encryption of one block: with the published masks, from the stored boxes where the step is 1, and with any sixteen masks.
 ghost use mathlib.Core.Path.{_≡_};
-ghost use Rattle.aes.specs.Reply.{refusal};
-ghost use Rattle.masked.specs.Calls.{encryptPublishedOf, encryptMaskedOf, checks};
-use super::chosen;
-use super::lent::Block;
-use super::lent::Masks;
-use crate::run::unrecorded;
+ghost use Rattle.masked.specs.Calls.{encryptPublishedOf, encryptMaskedOf};
+use super::checked::refusal;
 use aes::reply;
-use masks::constants;
-use masks::store;
+use caller::Caller;
+use lent::given::Block;
+use lent::given::Masks;
+use masks::constants::Kind;
+use runs::run::unrecorded;
 
 // Writes the block that the masked run ends with, over the published masks.
 pub fn encrypt_published(
@@ -26,12 +25,13 @@ pub fn encrypt_published(
     if refusal != reply::DONE {
         return refusal;
     }
-    let masks = Masks::published(step);
-    let mut boxes = store::boxes();
+    let caller = Caller {};
+    let masks = Masks::published(caller, step);
+    let mut boxes = stores::boxes::boxes();
     masks.stepped(&mut boxes);
-    let compensations = constants::stored_compensations();
+    let compensations = stores::constants::compensations();
     unrecorded(
-        Block::lent(input),
+        Block::lent(caller, input),
         schedule,
         masks,
         &boxes,
@@ -58,13 +58,14 @@ pub fn encrypt_masked(
     if refusal != reply::DONE {
         return refusal;
     }
-    let masks = Masks::lent(masks, step);
+    let caller = Caller {};
+    let masks = Masks::lent(caller, masks, step);
     let mut boxes = [0u8; 4096];
     masks.boxes(&mut boxes);
     let mut compensations = [0u8; 256];
-    masks.compensations(&mut compensations);
+    masks.constants(Kind::Compensation, &mut compensations);
     unrecorded(
-        Block::lent(input),
+        Block::lent(caller, input),
         schedule,
         masks,
         &boxes,
@@ -73,34 +74,4 @@ pub fn encrypt_masked(
         output,
     );
     reply::DONE
-}
-
-// The number of the first check that fails, in their order.
-pub(crate) fn refusal(
-    schedule: &[u8],
-    input: &[u8],
-    output: &[u8],
-    masks: &[u8],
-    offset: u8,
-    step: u8,
-    form: u8,
-) -> u8
-    ensures { λ r. ⌜ r ≡ refusal (checks (now (schedule .entry)) (now (input .entry)) (now (output .entry)) (now (masks .entry)) offset step form) ⌝ }
-{
-    if schedule.len() != 240 {
-        return reply::SCHEDULE_LENGTH;
-    }
-    if input.len() != 16 {
-        return reply::INPUT_LENGTH;
-    }
-    if output.len() != 16 {
-        return reply::OUTPUT_LENGTH;
-    }
-    if masks.len() != 16 {
-        return reply::MASKS_LENGTH;
-    }
-    if 15 < offset {
-        return reply::OFFSET_RANGE;
-    }
-    chosen::refusal(step, form)
 }

@@ -8,14 +8,13 @@ ghost use Rattle.aes.specs.State.{at};
 ghost use Rattle.aes.specs.Reply.{areOffsets, isStep, isForm, refusal};
 ghost use Rattle.masks.specs.Mask.{inRow};
 ghost use Rattle.masked.specs.Calls.{encryptBlocksOf, blocksChecks};
-ghost use Rattle.masked.specs.Lent.{inTurn};
+ghost use Rattle.masked.specs.Calls.{inTurn};
 use super::chosen;
-use super::lent::Block;
-use super::lent::Masks;
-use crate::run::unrecorded;
 use aes::reply;
-use masks::constants;
-use masks::store;
+use caller::Caller;
+use lent::given::Block;
+use lent::given::Masks;
+use runs::run::unrecorded;
 
 // Writes for each block what encrypt_published would, at the block's own offset.
 pub fn encrypt_blocks(
@@ -41,16 +40,17 @@ fn in_turn(schedule: &[u8], input: &[u8], output: &mut [u8], offsets: &[u8], ste
     requires { ⌜ (length (now schedule) ≡ 240) × (length (now input) ≡ 16 * length (now offsets)) × (length (now output) ≡ 16 * length (now offsets)) ⌝ }
     ensures { λ _. ⌜ now (output .exit) ≡ inRow (inTurn (now (schedule .entry)) (now (input .entry)) (now (offsets .entry)) step) (length (now (offsets .entry))) ⌝ }
 {
-    let masks = Masks::published(step);
-    let mut boxes = store::boxes();
+    let caller = Caller {};
+    let masks = Masks::published(caller, step);
+    let mut boxes = stores::boxes::boxes();
     masks.stepped(&mut boxes);
-    let compensations = constants::stored_compensations();
+    let compensations = stores::constants::compensations();
     let mut k = 0;
     while k < offsets.len() {
         let a = 16 * k;
         let e = a + 16;
         unrecorded(
-            Block::lent(&input[a..e]),
+            Block::lent(caller, &input[a..e]),
             schedule,
             masks,
             &boxes,

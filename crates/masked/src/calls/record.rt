@@ -1,11 +1,13 @@
 // The recorded masked run, with any sixteen masks.
 ghost use mathlib.Core.Path.{_≡_};
 ghost use Rattle.masked.specs.Calls.{recordMaskedOf};
-use super::encrypt::refusal;
-use super::lent::Block;
-use super::lent::Masks;
-use crate::run::recorded;
+use super::checked::record_refusal;
 use aes::reply;
+use caller::Caller;
+use lent::given::Block;
+use lent::given::Masks;
+use masks::constants::Kind;
+use runs::run::recorded;
 
 // Writes the 71 states of a masked run.
 pub fn record_masked(
@@ -18,21 +20,18 @@ pub fn record_masked(
 ) -> u8
     ensures { λ r. ⌜ (r, now (states .exit)) ≡ recordMaskedOf (now (schedule .entry)) (now (input .entry)) (now (masks .entry)) offset step (now (states .entry)) ⌝ }
 {
-    // No output is lent: the input, of which the same length is asked, stands for it.
-    let refusal = refusal(schedule, input, input, masks, offset, step, 0);
+    let refusal = record_refusal(schedule, input, masks, offset, step, states, 1136);
     if refusal != reply::DONE {
         return refusal;
     }
-    if states.len() != 1136 {
-        return reply::RECORD_LENGTH;
-    }
-    let masks = Masks::lent(masks, step);
+    let caller = Caller {};
+    let masks = Masks::lent(caller, masks, step);
     let mut boxes = [0u8; 4096];
     masks.boxes(&mut boxes);
     let mut compensations = [0u8; 256];
-    masks.compensations(&mut compensations);
+    masks.constants(Kind::Compensation, &mut compensations);
     recorded(
-        Block::lent(input),
+        Block::lent(caller, input),
         schedule,
         masks,
         &boxes,

@@ -4,10 +4,10 @@ use crate::cipher::{expand_key, Boxes};
 use crate::lent::{Buffer, Lent};
 use crate::masked::PUBLISHED;
 use crate::random::Random;
-use crate::replies::{takes_many, Cause};
+use crate::replies::{record_length, takes_many, Cause};
 
 /// The lengths that calls take: each is the wrong one for another buffer.
-const LENGTHS: [usize; 6] = [16, 21, 22, 32, 240, 1136];
+const LENGTHS: [usize; 7] = [16, 21, 22, 32, 240, 1136, 1360];
 
 /// For a call that has such an order of refusals. Broken has the causes that are wanted.
 pub fn draw(random: &mut Random, boxes: &Boxes, order: &[Cause], broken: &[Cause]) -> Lent {
@@ -20,7 +20,7 @@ pub fn draw(random: &mut Random, boxes: &Boxes, order: &[Cause], broken: &[Cause
     let output = bytes(random, if many { input.len() } else { 16 }, wants(Cause::Output) || wants(Cause::Room));
     let offsets = offsets(random, input.len() / 16, wants(Cause::OffsetCount), wants(Cause::AnyOffset));
     let masks = if wants(Cause::Masks) { bytes(random, 16, true) } else { masks(random).to_vec() };
-    let states = bytes(random, 1136, wants(Cause::States));
+    let states = bytes(random, record_length(order), wants(Cause::States) || wants(Cause::DecryptionStates));
     let step = step(random, wants(Cause::Step));
     let sheet = sheet(random, wants);
     let blank = bytes(random, if step == 1 { 21 } else { 22 }, wants(Cause::BlankLength));

@@ -1,10 +1,17 @@
-//! AES-256 as FIPS 197 writes it: the transformations on a state, key expansion, CIPHER, INVCIPHER and the recorded run.
+//! AES-256 as FIPS 197 writes it: the transformations on a state, key expansion, CIPHER, INVCIPHER and the recorded runs.
 
 use crate::field::{s_box, times};
 use std::array::from_fn;
 
 /// Byte r + 4c is row r of column c.
 pub type State = [u8; 16];
+
+/// Which way a run goes.
+#[derive(Clone, Copy)]
+pub enum Direction {
+    Encryption,
+    Decryption,
+}
 
 /// S and its inverse, worked out once from the formula.
 pub struct Boxes {
@@ -26,12 +33,16 @@ impl Boxes {
         self.forward[usize::from(x)]
     }
 
+    pub fn inv_s(&self, x: u8) -> u8 {
+        self.backward[usize::from(x)]
+    }
+
     fn sub_bytes(&self, s: &State) -> State {
         s.map(|x| self.s(x))
     }
 
     fn inv_sub_bytes(&self, s: &State) -> State {
-        s.map(|x| self.backward[usize::from(x)])
+        s.map(|x| self.inv_s(x))
     }
 }
 
@@ -44,7 +55,7 @@ pub fn shift_rows(s: &State) -> State {
     from_fn(|i| s[i % 4 + 4 * ((i / 4 + i % 4) % 4)])
 }
 
-fn inv_shift_rows(s: &State) -> State {
+pub fn inv_shift_rows(s: &State) -> State {
     from_fn(|i| s[i % 4 + 4 * ((i / 4 + 4 - i % 4) % 4)])
 }
 
@@ -60,7 +71,7 @@ pub fn mix_columns(s: &State) -> State {
     mix(s, [0x02, 0x03, 0x01, 0x01])
 }
 
-fn inv_mix_columns(s: &State) -> State {
+pub fn inv_mix_columns(s: &State) -> State {
     mix(s, [0x0e, 0x0b, 0x0d, 0x09])
 }
 
@@ -109,8 +120,16 @@ pub fn decrypt(boxes: &Boxes, schedule: &[u8], block: &State) -> State {
     add_round_key(&boxes.inv_sub_bytes(&inv_shift_rows(&s)), schedule, 0)
 }
 
-/// The 71 states of a plain run. Where a masked run compensates or uncovers, the state before stands again.
-pub fn record(boxes: &Boxes, schedule: &[u8], block: &State) -> Vec<State> {
+/// The states of a plain run. Where a masked run compensates, corrects or uncovers, the state before stands again.
+pub fn record(direction: Direction, boxes: &Boxes, schedule: &[u8], block: &State) -> Vec<State> {
+    match direction {
+        Direction::Encryption => record_cipher(boxes, schedule, block),
+        Direction::Decryption => record_inv_cipher(boxes, schedule, block),
+    }
+}
+
+/// 71 of CIPHER.
+fn record_cipher(boxes: &Boxes, schedule: &[u8], block: &State) -> Vec<State> {
     let mut states = vec![*block];
     let mut s = *block;
     for round in 0..=13 {
@@ -119,6 +138,25 @@ pub fn record(boxes: &Boxes, schedule: &[u8], block: &State) -> Vec<State> {
         let shifted = shift_rows(&boxed);
         s = if round < 13 { mix_columns(&shifted) } else { add_round_key(&shifted, schedule, 14) };
         states.extend([keyed, boxed, shifted, s, s]);
+    }
+    states
+}
+
+/// 85 of INVCIPHER.
+fn record_inv_cipher(boxes: &Boxes, schedule: &[u8], block: &State) -> Vec<State> {
+    let mut s = add_round_key(block, schedule, 14);
+    let mut states = vec![*block, s];
+    for round in (0..=13).rev() {
+        let unshifted = inv_shift_rows(&s);
+        let unboxed = boxes.inv_sub_bytes(&unshifted);
+        let keyed = add_round_key(&unboxed, schedule, round);
+        states.extend([unshifted, unshifted, unboxed, keyed]);
+        if round > 0 {
+            s = inv_mix_columns(&keyed);
+            states.extend([s, s]);
+        } else {
+            states.push(keyed);
+        }
     }
     states
 }

@@ -1,5 +1,6 @@
 //! The edges that the scope and the requests name, one by one.
 
+mod records;
 mod sheets;
 mod steps;
 mod stored;
@@ -28,11 +29,12 @@ pub fn compare(spoiled: bool) -> Tally {
         powers(),
         sheets::read(),
         sheets::written(),
-        zero_masks(),
+        records::refused(),
+        records::zero_masks(),
         fitness(),
         stored::refused(),
         stored::converted(),
-        box_order(),
+        records::box_order(),
     ];
     for edge in edges.into_iter().flatten() {
         let expected = edge.expected ^ u16::from(spoiled);
@@ -64,6 +66,7 @@ fn huge() -> Vec<Edge> {
         edge("reply to a schedule of a mebibyte", calls::encrypt(&many, &[0; 16], &mut [0; 16]), 2),
         edge("reply to a block of a mebibyte", calls::encrypt(&[0; 240], &many, &mut [0; 16]), 3),
         edge("reply to a mask table of a mebibyte", calls::fitness(&many) >> 8, 5),
+        edge("the same, decrypting", calls::decrypt_masked(&[0; 240], &[0; 16], &mut [0; 16], &many, 0, 1), 5),
         edge("reply to a sheet of a mebibyte", calls::read_sheet(&sheet, &mut [0; 16]) >> 8, 11),
     ]
 }
@@ -78,8 +81,10 @@ fn offsets_and_forms() -> Vec<Edge> {
         edges.push(edge(format!("reply to offset {offset}, form {form}, any masks"), masked, expected));
     }
     for (offset, expected) in [(15, 0), (16, 6)] {
-        let recorded = calls::record_masked(&w, &block, &masks, offset, 1, &mut [0; 1136]);
-        edges.push(edge(format!("reply to offset {offset}, recorded"), recorded, expected));
+        let published = calls::decrypt_published(&w, &block, &mut [0; 16], offset, 1);
+        edges.push(edge(format!("reply to offset {offset}, published masks, decrypting"), published, expected));
+        let masked = calls::decrypt_masked(&w, &block, &mut [0; 16], &masks, offset, 1);
+        edges.push(edge(format!("reply to offset {offset}, any masks, decrypting"), masked, expected));
     }
     edges
 }
@@ -120,17 +125,6 @@ fn powers() -> Vec<Edge> {
     ]
 }
 
-fn zero_masks() -> Vec<Edge> {
-    let (mut w, mut plain, mut masked) = ([0; 240], [1; 1136], [2; 1136]);
-    calls::expand_key(&[3; 32], &mut w);
-    calls::record_plain(&w, &[4; 16], &mut plain);
-    let recorded = calls::record_masked(&w, &[4; 16], &[0; 16], 5, 1, &mut masked);
-    vec![
-        edge("reply to masks that are all 00, recorded", recorded, 0),
-        edge("bytes in which that record is not the plain one", difference(&plain, &masked), 0),
-    ]
-}
-
 fn fitness() -> Vec<Edge> {
     let rising = std::array::from_fn(|i| i as u8);
     let mut edges = Vec::new();
@@ -142,34 +136,6 @@ fn fitness() -> Vec<Edge> {
         edges.push(edge(format!("fitness of {name}"), fitness & 0xff, expected));
     }
     edges
-}
-
-/// Of the records at all offsets: where what a box gives, xored with what the next one called takes, is the xor of the two bare
-/// bytes. There are sixteen offsets, fourteen rounds and fifteen pairs of neighbours in a round.
-fn box_order() -> Vec<Edge> {
-    let even_first: [usize; 16] = std::array::from_fn(|k| 2 * k % 16 + k / 8);
-    let natural: [usize; 16] = std::array::from_fn(|k| k);
-    let other_steps: u16 = (4..16).map(|step| pairs_left_bare(&even_first, step)).sum();
-    vec![
-        edge("pairs left bare, even boxes first", pairs_left_bare(&even_first, 1), 0),
-        edge("pairs left bare, boxes in natural order", pairs_left_bare(&natural, 1), 16 * 14 * 15),
-        edge("pairs left bare, even boxes first, steps 4 to 15", other_steps, 0),
-    ]
-}
-
-fn pairs_left_bare(order: &[usize; 16], step: u8) -> u16 {
-    let (mut w, mut plain, mut masked) = ([0; 240], [1; 1136], [2; 1136]);
-    calls::expand_key(&[5; 32], &mut w);
-    calls::record_plain(&w, &[6; 16], &mut plain);
-    let mut bare = 0;
-    for offset in 0..16 {
-        calls::record_masked(&w, &[6; 16], &PUBLISHED, offset, step, &mut masked);
-        for keyed in (0..14).map(|round| 16 * (5 * round + 1)) {
-            let between = |record: &[u8], pair: &[usize]| record[keyed + 16 + pair[0]] ^ record[keyed + pair[1]];
-            bare += order.windows(2).filter(|pair| between(&masked, pair) == between(&plain, pair)).count();
-        }
-    }
-    bare as u16
 }
 
 fn difference(a: &[u8], b: &[u8]) -> u16 {

@@ -1,6 +1,6 @@
 //! The independent second program: `second SEED CASES [SPOILED]` compares every public call of the library with an
 //! implementation of its own, on so many cases drawn from the seed, on every step and every form where there is one, and on all
-//! inputs of the calls that take bytes alone.
+//! inputs of the calls that take bytes alone; and it compares blocks with themselves, sealed and opened again.
 //!
 //! It prints for each call how many cases were compared and how many differ, and fails where any does. SPOILED names a call, or
 //! `edges`: what is expected of it is then changed, so that each of its cases must differ.
@@ -22,13 +22,13 @@ mod report;
 mod sheet;
 mod steps;
 mod table;
+mod trips;
 
 use crate::bytes::BYTE_CALLS;
 use crate::cipher::Boxes;
 use crate::compare::{compare, compare_forms, Trial};
 use crate::random::Random;
 use crate::report::{Report, Tally};
-use crate::table::CALLS;
 use std::process::exit;
 
 fn main() {
@@ -50,7 +50,7 @@ fn all(seed: u64, cases: usize, spoiled: &str) -> bool {
     let boxes = Boxes::new();
     let mut random = Random::new(seed);
     let mut report = Report::start();
-    for call in CALLS {
+    for call in table::calls() {
         let trial = || Trial { call, boxes: &boxes, spoiled: call.name == spoiled, tally: Tally::default() };
         let (mut drawn, mut every_step, mut every_form) = (trial(), trial(), trial());
         compare(&mut drawn, &mut random, cases);
@@ -61,6 +61,11 @@ fn all(seed: u64, cases: usize, spoiled: &str) -> bool {
         if compare_forms(&mut every_form, &mut random) {
             report.row(call.name, "the same in every form", every_form.tally);
         }
+    }
+    for opening in &trips::DECRYPTING {
+        let [opened, sealed] = trips::compare(opening, &mut random, &boxes, cases, opening.name == spoiled);
+        report.row(opening.name, "a block that any call sealed", opened);
+        report.row(opening.name, "a block, sealed again by any", sealed);
     }
     for call in BYTE_CALLS {
         let tally = call.compare(&mut random, call.name == spoiled);

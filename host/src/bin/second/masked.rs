@@ -1,6 +1,7 @@
-//! The masked run of document 002, its last box label and its last constant as the scope corrects them.
+//! The masked run of document 002, its last box label and its last constant as the scope corrects them, and the masked decryption.
 
-use crate::cipher::{add, add_round_key, mix_columns, shift_rows, Boxes, State};
+use crate::cipher::{add, add_round_key, inv_mix_columns, inv_shift_rows, mix_columns, shift_rows, Boxes, Direction, State};
+use crate::lent::Lent;
 use std::array::from_fn;
 
 /// The sixteen masks that document 002 publishes.
@@ -14,6 +15,16 @@ pub struct Masking {
 }
 
 impl Masking {
+    /// With the published masks, at the offset and the step that a call is lent.
+    pub fn published(lent: &Lent) -> Masking {
+        Masking { masks: PUBLISHED, offset: lent.offset.into(), step: lent.step.into() }
+    }
+
+    /// The same with the masks that it is lent.
+    pub fn lent(lent: &Lent) -> Masking {
+        Masking { masks: lent.masks.sixteen(), ..Masking::published(lent) }
+    }
+
     fn mask_byte(&self, label: usize) -> u8 {
         self.masks[label % 16]
     }
@@ -23,31 +34,46 @@ impl Masking {
         from_fn(|i| self.mask_byte(self.offset + self.step * rounds + i))
     }
 
-    /// Compensation(offset + step * rounds).
-    fn compensation(&self, rounds: usize) -> State {
+    /// What puts the mask after so many rounds back where a transformation has moved it: the xor of both.
+    fn constant(&self, rounds: usize, moved: impl Fn(&State) -> State) -> State {
         let mask = self.mask(rounds);
-        add(&mask, &mix_columns(&shift_rows(&mask)))
+        add(&mask, &moved(&mask))
     }
 
-    /// Box offset + i + step * round on byte i.
-    fn boxes(&self, boxes: &Boxes, s: &State, round: usize) -> State {
+    /// Box offset + i + step * round on byte i, over S or its inverse.
+    fn boxes(&self, bare: impl Fn(u8) -> u8, s: &State, round: usize) -> State {
         from_fn(|i| {
             let label = self.offset + i + self.step * round;
-            boxes.s(s[i] ^ self.mask_byte(label)) ^ self.mask_byte(label + self.step)
+            bare(s[i] ^ self.mask_byte(label)) ^ self.mask_byte(label + self.step)
         })
     }
 
-    /// The 71 states of the masked run, each made from the one before.
-    pub fn run(&self, boxes: &Boxes, schedule: &[u8], block: &State) -> Vec<State> {
+    /// The states of a masked run, each made from the one before.
+    pub fn run(&self, direction: Direction, boxes: &Boxes, schedule: &[u8], block: &State) -> Vec<State> {
+        match direction {
+            Direction::Encryption => self.encryption(boxes, schedule, block),
+            Direction::Decryption => self.decryption(boxes, schedule, block),
+        }
+    }
+
+    /// The mask that lies at each point of a run, row by row as the tables have them.
+    pub fn masks_at_points(&self, direction: Direction) -> Vec<State> {
+        match direction {
+            Direction::Encryption => self.masks_encrypting(),
+            Direction::Decryption => self.masks_decrypting(),
+        }
+    }
+
+    fn encryption(&self, boxes: &Boxes, schedule: &[u8], block: &State) -> Vec<State> {
         let mut s = add(block, &self.mask(0));
         let mut states = vec![s];
         for round in 0..=13 {
             let keyed = add_round_key(&s, schedule, round);
-            let boxed = self.boxes(boxes, &keyed, round);
+            let boxed = self.boxes(|x| boxes.s(x), &keyed, round);
             let shifted = shift_rows(&boxed);
             let (next, constant) = match round {
                 13 => (add_round_key(&shifted, schedule, 14), shift_rows(&self.mask(14))),
-                _ => (mix_columns(&shifted), self.compensation(1 + round)),
+                _ => (mix_columns(&shifted), self.constant(1 + round, |mask| mix_columns(&shift_rows(mask)))),
             };
             s = add(&next, &constant);
             states.extend([keyed, boxed, shifted, next, s]);
@@ -55,8 +81,29 @@ impl Masking {
         states
     }
 
-    /// The mask that lies at each of the 71 points, row by row as the scope's table has them.
-    pub fn masks_at_points(&self) -> Vec<State> {
+    fn decryption(&self, boxes: &Boxes, schedule: &[u8], block: &State) -> Vec<State> {
+        let covered = add(block, &self.mask(0));
+        let mut s = add_round_key(&covered, schedule, 14);
+        let mut states = vec![covered, s];
+        for round in 0..=13 {
+            let unshifted = inv_shift_rows(&s);
+            let corrected = add(&unshifted, &self.constant(round, inv_shift_rows));
+            let unboxed = self.boxes(|x| boxes.inv_s(x), &corrected, round);
+            let keyed = add_round_key(&unboxed, schedule, 13 - round);
+            states.extend([unshifted, corrected, unboxed, keyed]);
+            if round < 13 {
+                let unmixed = inv_mix_columns(&keyed);
+                s = add(&unmixed, &self.constant(1 + round, inv_mix_columns));
+                states.extend([unmixed, s]);
+            } else {
+                states.push(add(&keyed, &self.mask(14)));
+            }
+        }
+        states
+    }
+
+    /// As the scope's table has them.
+    fn masks_encrypting(&self) -> Vec<State> {
         let mut masks = vec![self.mask(0)];
         for round in 0..=12 {
             let after = self.mask(round + 1);
@@ -66,6 +113,20 @@ impl Masking {
         let after = self.mask(14);
         let shifted = shift_rows(&after);
         masks.extend([self.mask(13), after, shifted, shifted, [0; 16]]);
+        masks
+    }
+
+    /// The boxes take the mask of their round and give that of the next; a mask that was moved is put back at the next point.
+    fn masks_decrypting(&self) -> Vec<State> {
+        let mut masks = vec![self.mask(0), self.mask(0)];
+        for round in 0..=13 {
+            let (taken, given) = (self.mask(round), self.mask(round + 1));
+            masks.extend([inv_shift_rows(&taken), taken, given, given]);
+            match round {
+                13 => masks.push([0; 16]),
+                _ => masks.extend([inv_mix_columns(&given), given]),
+            }
+        }
         masks
     }
 }

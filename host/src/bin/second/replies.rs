@@ -3,8 +3,8 @@
 
 use crate::lent::Lent;
 
-/// What a call can find wrong. A reply number can have several causes: a sheet is measured twice where it is read, and for many
-/// blocks lengths are measured otherwise than for one.
+/// What a call can find wrong. A reply number can have several causes: a sheet is measured twice where it is read, for many
+/// blocks lengths are measured otherwise than for one, and a record has the length of its direction.
 #[derive(Clone, Copy, Debug, PartialEq)]
 pub enum Cause {
     Key,
@@ -24,6 +24,8 @@ pub enum Cause {
     Step,
     Form,
     States,
+    /// Of a decryption, whose record is longer.
+    DecryptionStates,
     /// A sheet to read that is too short for mark and version.
     SheetHead,
     Mark,
@@ -50,6 +52,15 @@ pub fn takes_many(order: &[Cause]) -> bool {
     order.contains(&Cause::Blocks)
 }
 
+/// How long the record is of a call with these refusals.
+pub fn record_length(order: &[Cause]) -> usize {
+    if order.contains(&Cause::DecryptionStates) {
+        1360
+    } else {
+        1136
+    }
+}
+
 impl Cause {
     pub fn number(self) -> u8 {
         match self {
@@ -60,7 +71,7 @@ impl Cause {
             Cause::Masks => 5,
             Cause::Offset | Cause::AnyOffset => 6,
             Cause::Form => 7,
-            Cause::States => 8,
+            Cause::States | Cause::DecryptionStates => 8,
             Cause::SheetHead | Cause::SheetLength | Cause::BlankLength => 11,
             Cause::Mark => 12,
             Cause::Version => 13,
@@ -87,6 +98,7 @@ impl Cause {
             Cause::Step => !takes_step(lent.step),
             Cause::Form => lent.form != 0,
             Cause::States => lent.states.lent().len() != 1136,
+            Cause::DecryptionStates => lent.states.lent().len() != 1360,
             Cause::SheetHead => sheet.len() < 5,
             Cause::Mark => !sheet.starts_with(b"MSK"),
             Cause::Version => sheet[3..5] != [0, 1] && sheet[3..5] != [0, 2],

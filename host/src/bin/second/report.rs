@@ -20,12 +20,12 @@ pub struct Report {
 
 impl Report {
     pub fn start() -> Report {
-        println!("{:<18} {:<28} {:>8} {:>8}", "call", "compared with", "compared", "differ");
+        println!("{:<24} {:<28} {:>8} {:>8}", "call", "compared with", "compared", "differ");
         Report { sum: Tally::default() }
     }
 
     pub fn row(&mut self, name: &str, method: &str, tally: Tally) {
-        println!("{name:<18} {method:<28} {:>8} {:>8}", tally.compared, tally.differ);
+        println!("{name:<24} {method:<28} {:>8} {:>8}", tally.compared, tally.differ);
         self.sum.compared += tally.compared;
         self.sum.differ += tally.differ;
     }

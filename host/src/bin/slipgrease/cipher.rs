@@ -86,6 +86,24 @@ const FORM: u8 = 0;
 
 /// The module's encryption, at the offset and with the step that the caller names.
 pub fn mask(words: &mut Words, out: &mut dyn Write) -> Result<(), Fault> {
+    one_masked_block(words, out, |schedule, block, output, masks, offset, step| match masks {
+        None => slipgrease::encrypt_published(schedule, block, output, offset, step, FORM),
+        Some(masks) => slipgrease::encrypt_masked(schedule, block, output, masks, offset, step, FORM),
+    })
+}
+
+/// Its decryption, likewise.
+pub fn unmask(words: &mut Words, out: &mut dyn Write) -> Result<(), Fault> {
+    one_masked_block(words, out, |schedule, block, output, masks, offset, step| match masks {
+        None => slipgrease::decrypt_published(schedule, block, output, offset, step),
+        Some(masks) => slipgrease::decrypt_masked(schedule, block, output, masks, offset, step),
+    })
+}
+
+/// Without masks it has the published ones.
+type MaskedCipher = fn(&[u8], &[u8], &mut [u8], Option<&[u8]>, u8, u8) -> Result<(), Refusal>;
+
+fn one_masked_block(words: &mut Words, out: &mut dyn Write, cipher: MaskedCipher) -> Result<(), Fault> {
     let offset = words.number_of("offset")?;
     let step = words.number_of("step")?;
     let masks = words.bytes_of("masks")?;
@@ -96,12 +114,10 @@ pub fn mask(words: &mut Words, out: &mut dyn Write) -> Result<(), Fault> {
         offset.ok_or_else(|| Fault::caller("--offset is missing: the run's offset, 0 to 15, is the caller's to choose"))?;
     let masking = Masking { masks, offset, step };
     let (offset, step) = (masking.offset.value, Number::step(&masking.step));
+    let masks = masking.masks.as_ref().map(|masks| &masks.bytes[..]);
     let mut output = [0; 16];
-    let made = match &masking.masks {
-        None => slipgrease::encrypt_published(&keyed.bytes, &block.bytes, &mut output, offset, step, FORM),
-        Some(masks) => slipgrease::encrypt_masked(&keyed.bytes, &block.bytes, &mut output, &masks.bytes, offset, step, FORM),
-    };
-    made.map_err(|refusal| explained(refusal, &keyed, &block, Some(&masking)))?;
+    cipher(&keyed.bytes, &block.bytes, &mut output, masks, offset, step)
+        .map_err(|refusal| explained(refusal, &keyed, &block, Some(&masking)))?;
     writeln!(out, "{}", digits(&output))?;
     Ok(())
 }

@@ -53,6 +53,17 @@ $ slipgrease mask --offset 3 000102030405060708090a0b0c0d0e0f1011121314151617181
 8ea2b7ca516745bfeafc49904b496089",
     },
     Help {
+        name: "unmask",
+        usage: "unmask --offset O [--step D] [--masks MASKS] KEY BLOCK",
+        summary: "a block decrypted by the module's engine",
+        text: "\
+Prints the plaintext that a masked decryption ends with. Offset, step and masks are as for mask, and need not be those with which
+the block was encrypted. --schedule SCHEDULE can stand for the key.",
+        example: "\
+$ slipgrease unmask --offset 3 000102030405060708090a0b0c0d0e0f101112131415161718191a1b1c1d1e1f 8ea2b7ca516745bfeafc49904b496089
+00112233445566778899aabbccddeeff",
+    },
+    Help {
         name: "blocks",
         usage: "blocks --offsets OFFSETS [--step D] KEY BLOCK ..",
         summary: "up to 256 blocks encrypted by the module's engine in one call",
@@ -81,12 +92,12 @@ $ slipgrease convert 7e5db7c5675e16e38f96dc0ae8e5a640 0
     },
     Help {
         name: "record",
-        usage: "record [--offset O] [--step D] [--masks MASKS] [--svg FILE] KEY BLOCK",
-        summary: "the 71 states of a run, or of two side by side",
+        usage: "record [--decrypt] [--offset O] [--step D] [--masks MASKS] [--svg FILE] KEY BLOCK",
+        summary: "the states of a run, or of two side by side",
         text: "\
-Without an offset the run is plain. With one it is masked, and each state stands with the plain one, its mask and the mask's
-name. The step is 1 unless another is named, 4 to 15, and the masks are the published ones unless sixteen others are given.
---schedule SCHEDULE can stand for the key.
+Prints the 71 states of an encryption, or with --decrypt the 85 of a decryption. Without an offset the run is plain. With one it
+is masked, and each state stands with the plain one, its mask and the mask's name. The step is 1 unless another is named, 4 to 15,
+and the masks are the published ones unless sixteen others are given. --schedule SCHEDULE can stand for the key.
 
 A second run is put beside the first where --offset2 O, --step2 D, --masks2 MASKS, --key2 KEY or --block2 BLOCK is given; what it
 is not given it has from the first. The bytes in which the two differ are marked: their xor is printed, and dots where they are
@@ -144,12 +155,12 @@ $ slipgrease fitness 000f3639535c656a959aa3acc6c9f0ff
         usage: "vectors [--step D] FILE",
         summary: "a file of test vectors, run and counted",
         text: "\
-Each line of the file has a key, a block and its ciphertext; what follows a # is left out. Each vector is encrypted, decrypted, and
-encrypted with the published masks at all sixteen offsets. The step is 1 unless another is named, 4 to 15. What differs is
-printed, and is a data fault.",
+Each line of the file has a key, a block and its ciphertext; what follows a # is left out. Each vector is encrypted and decrypted,
+by the rack's engine and with the published masks at all sixteen offsets. The step is 1 unless another is named, 4 to 15. What
+differs is printed, and is a data fault.",
         example: "\
 $ slipgrease vectors vectors.txt
-vectors 1, compared 18, differ 0",
+vectors 1, compared 34, differ 0",
     },
 ];
 

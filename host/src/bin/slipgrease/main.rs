@@ -44,6 +44,7 @@ const COMMANDS: &[(&str, Command)] = &[
     ("encrypt", cipher::encrypt),
     ("decrypt", cipher::decrypt),
     ("mask", cipher::mask),
+    ("unmask", cipher::unmask),
     ("blocks", cipher::blocks),
     ("convert", convert::convert),
     ("record", record::record),

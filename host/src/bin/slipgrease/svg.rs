@@ -1,8 +1,8 @@
-//! A record as a picture: a row for each of the 71 points, a cell for each byte, and a colour for each value.
+//! A record as a picture: a row for each of its points, a cell for each byte, and a colour for each value.
 
 use crate::hex::digits;
 use crate::record::Run;
-use slipgrease::{Point, Stage};
+use slipgrease::Point;
 use std::fmt::Write;
 
 /// Lengths are in the picture's own units, which a viewer takes for pixels.
@@ -32,6 +32,7 @@ impl Panel {
 
 /// One plain run, one masked run with its masks, or two runs and what differs.
 pub fn picture(first: &Run, second: Option<&Run>) -> String {
+    let points: Vec<Point> = first.direction.points().collect();
     let (title, lines, mut panels) = match second {
         Some(second) => (
             "Two runs of AES-256 side by side",
@@ -43,7 +44,8 @@ pub fn picture(first: &Run, second: Option<&Run>) -> String {
             ],
         ),
         None => {
-            let ciphertext = format!("ciphertext {}", digits(&first.states[1120..]));
+            let last = points.len() - 1;
+            let made = format!("{} {}", points[last], digits(&first.states[16 * last..]));
             let panels = match first.masked {
                 None => vec![Panel::of("state", first.states.clone())],
                 Some(_) => vec![
@@ -52,7 +54,7 @@ pub fn picture(first: &Run, second: Option<&Run>) -> String {
                     Panel::of("covered", first.states.clone()),
                 ],
             };
-            ("A run of AES-256", [first.named(), ciphertext], panels)
+            ("A run of AES-256", [first.named(), made], panels)
         }
     };
     if let Some(second) = second {
@@ -61,7 +63,7 @@ pub fn picture(first: &Run, second: Option<&Run>) -> String {
     }
     let named = if second.is_none() { first.masked } else { None };
     let mask_name = |point: Point| named.map(|(offset, step)| point.mask(offset, step));
-    drawn(title, &lines, &panels, mask_name, second.is_some())
+    drawn(title, &lines, &points, &panels, mask_name, second.is_some())
 }
 
 fn kind(run: &Run) -> String {
@@ -72,28 +74,40 @@ fn xor(a: &[u8], b: &[u8]) -> Vec<u8> {
     a.iter().zip(b).map(|(x, y)| x ^ y).collect()
 }
 
-fn drawn(title: &str, lines: &[String], panels: &[Panel], mask_name: impl Fn(Point) -> Option<String>, two: bool) -> String {
-    let names = if mask_name(Point::all().next().expect("there are points")).is_some() { MASK_NAMES } else { 0 };
+fn drawn(
+    title: &str,
+    lines: &[String],
+    points: &[Point],
+    panels: &[Panel],
+    mask_name: impl Fn(Point) -> Option<String>,
+    two: bool,
+) -> String {
+    let rows = rows(points);
+    let names = if mask_name(points[0]).is_some() { MASK_NAMES } else { 0 };
     let right = LEFT + panels.len() * (PANEL_WIDTH + PANEL_GAP) - PANEL_GAP;
-    let (width, last) = ((right + names).max(860) + MARGIN, row(70) + CELL_HEIGHT);
+    let (width, last) = ((right + names).max(860) + MARGIN, rows[rows.len() - 1] + CELL_HEIGHT);
     let mut svg = frame(width, last + BOTTOM, title, lines);
-    for point in Point::all() {
-        labels(&mut svg, point, right);
-        if let Some(name) = mask_name(point) {
-            text(&mut svg, "name", right + 12, row(point.number()) + 11, &name);
+    for (point, y) in points.iter().zip(&rows) {
+        labels(&mut svg, *point, *y, right);
+        if let Some(name) = mask_name(*point) {
+            text(&mut svg, "name", right + 12, y + 11, &name);
         }
     }
     for (index, panel) in panels.iter().enumerate() {
-        cells(&mut svg, panel, LEFT + index * (PANEL_WIDTH + PANEL_GAP));
+        cells(&mut svg, panel, &rows, LEFT + index * (PANEL_WIDTH + PANEL_GAP));
     }
     legend(&mut svg, last + 26, two);
     svg.push_str("</svg>\n");
     svg
 }
 
-/// The upper edge of a point's row; a gap stands before each round and before what follows the last one.
-fn row(number: usize) -> usize {
-    TOP + number * CELL_HEIGHT + (number + 4) / 5 * ROUND_GAP
+/// The upper edge of each point's row; a gap stands before each round.
+fn rows(points: &[Point]) -> Vec<usize> {
+    let gaps = points.iter().scan(0, |gaps, point| {
+        *gaps += usize::from(point.begins_round());
+        Some(*gaps)
+    });
+    gaps.enumerate().map(|(number, gaps)| TOP + number * CELL_HEIGHT + gaps * ROUND_GAP).collect()
 }
 
 fn frame(width: usize, height: usize, title: &str, lines: &[String]) -> String {
@@ -120,34 +134,28 @@ fn frame(width: usize, height: usize, title: &str, lines: &[String]) -> String {
     svg
 }
 
-/// The round at its first point, and what has just been done at each. A thin line parts the rounds.
-fn labels(svg: &mut String, point: Point, right: usize) {
-    let (n, y) = (point.number(), row(point.number()));
-    if n % 5 == 1 {
+/// The round at its first point, and what has just been done at each. A thin line parts the rounds. A key is numbered where its
+/// number is not the round's.
+fn labels(svg: &mut String, point: Point, y: usize, right: usize) {
+    if point.begins_round() {
         text(svg, "round", MARGIN, y + 11, &format!("round {}", point.round()));
         let y = y - ROUND_GAP / 2;
         let _ = writeln!(svg, "<path d=\"M{MARGIN} {y}H{right}\" stroke=\"#ddd\"/>");
     }
-    let stage = match point.stage() {
-        Stage::Block => "block",
-        Stage::Key if n == 69 => "key 14",
-        Stage::Key => "key",
-        Stage::Boxes => "boxes",
-        Stage::ShiftRows => "ShiftRows",
-        Stage::MixColumns => "MixColumns",
-        Stage::Compensation => "compensation",
-        Stage::Uncovering => "ciphertext",
+    let stage = match point.key() {
+        Some(key) if key != point.round() => point.to_string(),
+        _ => point.name().to_string(),
     };
-    text(svg, "stage", LEFT - 8, y + 11, stage);
+    text(svg, "stage", LEFT - 8, y + 11, &stage);
 }
 
-fn cells(svg: &mut String, panel: &Panel, left: usize) {
+fn cells(svg: &mut String, panel: &Panel, rows: &[usize], left: usize) {
     text(svg, "caption", left + PANEL_WIDTH / 2, TOP - 20, &panel.caption);
     for place in 0..16 {
         text(svg, "place", left + place * CELL_WIDTH + CELL_WIDTH / 2, TOP - 4, &place.to_string());
     }
     for (index, (byte, marked)) in panel.states.iter().zip(&panel.marked).enumerate() {
-        let (x, y) = (left + index % 16 * CELL_WIDTH, row(index / 16));
+        let (x, y) = (left + index % 16 * CELL_WIDTH, rows[index / 16]);
         let (fill, class) = if *marked { (colour(*byte), "byte") } else { ("#f7f7f7".to_string(), "byte pale") };
         let _ = writeln!(svg, "<rect x=\"{x}\" y=\"{y}\" width=\"{CELL_WIDTH}\" height=\"{CELL_HEIGHT}\" fill=\"{fill}\"/>");
         text(svg, class, x + CELL_WIDTH / 2, y + 11, &digits(&[*byte]));

@@ -1,5 +1,6 @@
 //! Commands as they are typed. What is expected is from FIPS 197, the scope's own examples, or worked out here.
 
+mod decryption;
 mod steps;
 mod stored;
 
@@ -76,10 +77,12 @@ fn missing_arguments_are_read_from_standard_input() {
 }
 
 #[test]
-fn the_module_makes_the_ciphertext_at_every_offset() {
+fn the_module_makes_the_ciphertext_and_the_plaintext_at_every_offset() {
     for offset in 0..16 {
-        assert_eq!(printed(&format!("mask --offset {offset} {KEY} {BLOCK}")).trim(), CIPHERTEXT);
-        assert_eq!(printed(&format!("mask {KEY} {BLOCK} --masks {BLOCK} --offset {offset}")).trim(), CIPHERTEXT);
+        for (command, block, made) in [("mask", BLOCK, CIPHERTEXT), ("unmask", CIPHERTEXT, BLOCK)] {
+            assert_eq!(printed(&format!("{command} --offset {offset} {KEY} {block}")).trim(), made);
+            assert_eq!(printed(&format!("{command} {KEY} {block} --masks {BLOCK} --offset {offset}")).trim(), made);
+        }
     }
 }
 
@@ -127,6 +130,13 @@ fn refusals_say_what_was_wrong() {
         ),
         (format!("mask --offset 16 {KEY} {BLOCK}"), "--offset 16: an offset is above 15 (reply 6, OFFSET_RANGE)", 1),
         (format!("mask --offset 272 {KEY} {BLOCK}"), "--offset 272: an offset is above 15 (reply 6, OFFSET_RANGE)", 1),
+        (format!("unmask --offset 16 {KEY} {BLOCK}"), "--offset 16: an offset is above 15 (reply 6, OFFSET_RANGE)", 1),
+        (format!("record --decrypt --offset 16 {KEY} {BLOCK}"), "--offset 16: an offset is above 15 (reply 6, OFFSET_RANGE)", 1),
+        (
+            format!("unmask --offset 16 --masks 00 {KEY} {BLOCK}"),
+            "masks, option --masks: 1 bytes: the mask table is not 16 bytes long (reply 5, MASKS_LENGTH)",
+            1,
+        ),
         (
             format!("blocks --offsets 00 {KEY} {BLOCK} 00"),
             "blocks, the last arguments: 17 bytes: the input is not 16 bytes long; of many blocks, not 16 for each of 256 at most \
@@ -179,14 +189,18 @@ fn what_never_reaches_the_library_is_a_caller_fault() {
         ),
         ("mask --offset x", "--offset x: a decimal number is expected; slipgrease mask --help says more"),
         ("mask --offset 1 --offset 2", "--offset is given twice; slipgrease mask --help says more"),
+        ("record --decrypt 00 --decrypt", "--decrypt is given twice; slipgrease record --help says more"),
+        ("mask --offset 1 --decrypt 00", "no option --decrypt here; slipgrease mask --help says more"),
         ("fitness 00 00", "00 is one word too many; slipgrease fitness --help says more"),
     ];
     for (line, message) in cases {
         assert_eq!(refused(line), (message.to_string(), 1));
     }
-    let without = refused(&format!("mask {KEY} {BLOCK}"));
-    assert_eq!(without.1, 1);
-    assert!(without.0.starts_with("--offset is missing"));
+    for command in ["mask", "unmask"] {
+        let without = refused(&format!("{command} {KEY} {BLOCK}"));
+        assert_eq!(without.1, 1);
+        assert!(without.0.starts_with("--offset is missing"));
+    }
 }
 
 #[test]
@@ -219,13 +233,20 @@ fn a_picture_has_a_cell_for_every_byte() {
     let folder = std::env::temp_dir().join(format!("slipgrease-{}", std::process::id()));
     fs::create_dir_all(&folder).unwrap();
     let file = folder.join("run.svg");
-    for (more, cells, pale) in [("", 1136, 0), (" --offset 3", 3 * 1136, 0), (" --offset 3 --offset2 3", 3 * 1136, 3 * 1136)] {
-        assert_eq!(printed(&format!("record --svg {} {KEY} {BLOCK}{more}", file.display())), "");
-        let svg = fs::read_to_string(&file).unwrap();
-        let legend = 16;
-        assert_eq!(svg.matches("<text class=\"byte").count(), cells + legend);
-        assert_eq!(svg.matches("byte pale").count(), pale);
-        assert!(svg.starts_with("<svg ") && svg.ends_with("</svg>\n"));
+    for (direction, block, made, bytes) in [("", BLOCK, CIPHERTEXT, 1136), (" --decrypt", CIPHERTEXT, BLOCK, 1360)] {
+        for (more, panels, pale) in [("", 1, 0), (" --offset 3", 3, 0), (" --offset 3 --offset2 3", 3, 3)] {
+            assert_eq!(printed(&format!("record --svg {} {KEY} {block}{direction}{more}", file.display())), "");
+            let svg = fs::read_to_string(&file).unwrap();
+            let legend = 16;
+            assert_eq!(svg.matches("<text class=\"byte").count(), panels * bytes + legend);
+            assert_eq!(svg.matches("byte pale").count(), pale * bytes);
+            assert_eq!(svg.matches("<text class=\"round\"").count(), 14);
+            // Round r of an encryption has key r, and of a decryption key 13 - r.
+            let keys = [">key</text>", ">key 14</text>", ">key 0</text>"].map(|key| svg.matches(key).count());
+            assert_eq!(keys, if direction.is_empty() { [14, 1, 0] } else { [0, 1, 1] });
+            assert_eq!(svg.matches(&format!("text {made}</text>")).count(), usize::from(pale == 0));
+            assert!(svg.starts_with("<svg ") && svg.ends_with("</svg>\n"));
+        }
     }
     fs::remove_dir_all(folder).unwrap();
 }
@@ -248,10 +269,10 @@ fn vectors_are_counted_and_a_wrong_one_is_a_data_fault() {
     let file = folder.join("vectors.txt");
     let line = format!("vectors {}", file.display());
     fs::write(&file, format!("# C.3\n\n{KEY} {BLOCK} {CIPHERTEXT} # and a word on it\n")).unwrap();
-    assert_eq!(printed(&line), "vectors 1, compared 18, differ 0\n");
+    assert_eq!(printed(&line), "vectors 1, compared 34, differ 0\n");
     fs::write(&file, format!("{KEY} {BLOCK} {BLOCK}\n")).unwrap();
     let (out, failed) = typed(&line, "");
-    assert!(out.ends_with("vectors 1, compared 18, differ 18\n"));
+    assert!(out.ends_with("vectors 1, compared 34, differ 34\n"));
     assert_eq!(failed.unwrap().1, 2);
     fs::write(&file, format!("{KEY} {BLOCK}\n")).unwrap();
     assert_eq!(refused(&line).1, 1);

@@ -50,10 +50,11 @@ fn made(vector: &Vector, step: Step) -> Vec<(String, Block, Block)> {
         ("encrypt".to_string(), schedule.encrypt(block), *ciphertext),
         ("decrypt".to_string(), schedule.decrypt(ciphertext), *block),
     ];
-    made.extend(Offset::all().map(|offset| {
-        let masked = schedule.encrypt_published(block, offset, step);
-        (format!("mask --offset {} --step {}", offset.number(), step.number()), masked, *ciphertext)
-    }));
+    for offset in Offset::all() {
+        let at = format!("--offset {} --step {}", offset.number(), step.number());
+        made.push((format!("mask {at}"), schedule.encrypt_published(block, offset, step), *ciphertext));
+        made.push((format!("unmask {at}"), schedule.decrypt_published(ciphertext, offset, step), *block));
+    }
     made
 }
 

@@ -74,10 +74,27 @@ impl<'a> Words<'a> {
         }
         let value = self.left.remove(place + 1);
         self.left.remove(place);
-        if self.left.contains(&flag) {
-            return Err(self.usage(format!("--{name} is given twice")));
-        }
+        self.given_once(&flag)?;
         Ok(Some(value))
+    }
+
+    /// Whether an option is there that has no word behind it.
+    pub fn flag(&mut self, name: &'static str) -> Result<bool, Fault> {
+        let flag = format!("--{name}");
+        let place = self.left.iter().position(|word| *word == flag);
+        if let Some(place) = place {
+            self.left.remove(place);
+            self.given_once(&flag)?;
+        }
+        Ok(place.is_some())
+    }
+
+    /// No second one may be left where one was taken.
+    fn given_once(&self, flag: &String) -> Result<(), Fault> {
+        match self.left.contains(flag) {
+            true => Err(self.usage(format!("{flag} is given twice"))),
+            false => Ok(()),
+        }
     }
 
     /// The bytes behind an option; behind a dash they are all of standard input.

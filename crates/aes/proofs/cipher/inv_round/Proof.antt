@@ -10,7 +10,7 @@ returns : tie.Need-returns
 returns c =
     let sum = c .before in
     let key = sum .before in
-    c .inv-mix-columns .ensures ∙ ap invMixColumns (sum .add .ensures ∙ λ i. addRoundKey (key .before .inv-shift-sub .ensures i) (key .round-key .ensures i))
+    c .unmixed .ensures ∙ ap invMixColumns (sum .add .ensures ∙ λ i. addRoundKey (key .before .inv-shift-sub .ensures i) (key .round-key .ensures i))
 
 pub inv-round-spec : {M : Type 1} → statement M
 inv-round-spec = tie.close (tie.spec (λ c κs. search needs) (λ c κs. search needs) (λ c κs. search needs) (λ c κs. search needs) returns)

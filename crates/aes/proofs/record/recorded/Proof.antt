@@ -7,8 +7,8 @@ use native.Mathlib.Omega.{arith}
 use borrow.Author.Needs.{needs}
 use lib.Dec.{lit≤}
 use lib.ListN.{length}
-use Rattle.aes.specs.Record.{block, five, plain, plainRecord, bytes}
-use Rattle.aes.proofs.Written.{Written, turns, rounds-all, written-block, written-turn, written-whole}
+use Rattle.aes.specs.Record.{block, five, points, plain, plainRecord, bytes}
+use Rattle.aes.proofs.Written.{Written, turns, rounds-all, rounds-bytes, written-first, written-turn, written-whole}
 use Rattle.aes.proofs.PlainRun.{plain-sized}
 use Rattle.aes.proofs.record.recorded.Statement.{statement}
 use Rattle.aes.proofs.record.recorded.Tie as tie
@@ -26,7 +26,7 @@ begin c =
     let kept = c .before .before in
     let start = kept .before .before .before .before in
     let size : length (kept .put .result) ≡ 16 = ap length (kept .put .ensures .0) ∙ start .good .0 .1 .0 .1 in
-    (lit≤ tt, size, written-block (plain-sized (start .args .w .now)) size (start .args .states .now) (start .pre .2) refl (kept .put .ensures .1))
+    (lit≤ tt, size, written-first (plain-sized (start .args .w .now)) size block (start .args .states .now) (lit≤ tt) (start .pre .2) refl (kept .put .ensures .1))
 
 next : {r : ℕ} → r < 14 → r + 1 ≤ 14
 next lt = omega (arith, lt)
@@ -39,7 +39,7 @@ again c =
     let round = c .before .before in
     let turn = round .before .before in
     let l = turn .before .loop in
-    (next (turn .loop-test .taken), l .inv .1, written-turn (plain-sized _) (l .inv .1) five 80 (λ i. refl) (l .r) (fits (turn .loop-test .taken)) (l .inv .2) (round .round .ensures))
+    (next (turn .loop-test .taken), l .inv .1, written-turn (plain-sized _) (l .inv .1) block five 80 (λ i. refl) (l .r) (fits (turn .loop-test .taken)) (l .inv .2) (round .round .ensures))
 
 round-needs : tie.Need-round-requires Inv-loop μ-loop
 round-needs c κs =
@@ -52,7 +52,7 @@ returns c =
     let l = c .before .loop in
     let kept = c .before .before .before .before in
     let w : List ℕ = kept .before .before .before .before .args .w .now in
-    written-whole (plain-sized w) (l .inv .1) five 14 rounds-all (l .r) (l .inv .0) (c .loop-test .left) (l .inv .2)
+    written-whole (plain-sized w) (l .inv .1) block five 14 (points 14) rounds-all rounds-bytes (l .r) (l .inv .0) (c .loop-test .left) (l .inv .2)
     ∙ ap (λ (s : List ℕ). bytes (plainRecord 14 w s)) (kept .put .ensures .0)
 
 pub recorded-spec : {M : Type 1} → statement M

@@ -2,6 +2,7 @@
 -- Assumes nothing.
 use mathlib.Core.List.{List}
 use mathlib.Core.Path.{_≡_, refl, sym, _∙_}
+use Prim.{⊥}
 use Prim.Native.Nat.{ℕ, _+_, _-_, _*_, _%_, _≤_, _<_}
 use native.Mathlib.Nat.{add-zero, zero-mod}
 use native.Mathlib.Omega.{arith}
@@ -24,6 +25,9 @@ abbrev μ-loop : tie.MeasureT-loop
 begin : tie.Need-loop-holds Inv-loop μ-loop
 begin c = (omega arith, zero-mod (2 * c .args .k), c .pre .0, λ n f h law. rw add-zero h)
 
+before-end : {y end : ℕ} → y ≤ end → (y ≡ end → ⊥) → y < end
+before-end le ne = omega (arith, le, ne)
+
 -- where the two parts of a pair lie
 in-room : (y k end : ℕ) → y + 2 * k ≤ end → 0 < k → end + end ≤ 4096
     → (y + k < end + y) × (end + y + k ≤ 4096) × (y < end + y + k) × (end + y + k + k ≤ 4096)
@@ -36,7 +40,7 @@ small : tie.Need-add-moved Inv-loop μ-loop
 small c =
     let l = c .before .before .loop in
     let start = c .before .before .before in
-    let pair = start .pre .4 (l .y) (c .before .loop-test .taken) (l .inv .1) in
+    let pair = start .pre .4 (l .y) (before-end (l .inv .0) (c .before .loop-test .taken)) (l .inv .1) in
     let room : l .y + start .args .k < 4096 = omega (arith, pair .0, start .pre .1, start .pre .3) in
     search needs
 
@@ -44,7 +48,7 @@ first-lent : tie.Need-moved-requires Inv-loop μ-loop
 first-lent c κs =
     let l = c .before .before .loop in
     let start = c .before .before .before in
-    let pair = start .pre .4 (l .y) (c .before .loop-test .taken) (l .inv .1) in
+    let pair = start .pre .4 (l .y) (before-end (l .inv .0) (c .before .loop-test .taken)) (l .inv .1) in
     let r = in-room (l .y) (start .args .k) (start .args .end) (pair .0) (start .pre .1) (start .pre .3) in
     (r .0, rw (l .inv .2) (r .1))
 
@@ -54,7 +58,7 @@ second-lent c κs =
     let in-loop = first .before .before in
     let l = in-loop .before .loop in
     let start = in-loop .before .before in
-    let pair = start .pre .4 (l .y) (in-loop .loop-test .taken) (l .inv .1) in
+    let pair = start .pre .4 (l .y) (before-end (l .inv .0) (in-loop .loop-test .taken)) (l .inv .1) in
     let r = in-room (l .y) (start .args .k) (start .args .end) (pair .0) (start .pre .1) (start .pre .3) in
     (r .2, rw (first .moved .ensures .0, l .inv .2) (r .3))
 
@@ -62,7 +66,8 @@ less : tie.Need-loop-less Inv-loop μ-loop
 less c =
     let in-loop = c .before .before .before .before in
     let start = in-loop .before .before in
-    fewer (in-loop .before .loop .y) (start .args .k) (start .args .end) (in-loop .loop-test .taken) (start .pre .1)
+    let l = in-loop .before .loop in
+    fewer (l .y) (start .args .k) (start .args .end) (before-end (l .inv .0) (in-loop .loop-test .taken)) (start .pre .1)
 
 pair-end : (y k end : ℕ) → end + y + k + k ≡ end + (y + 2 * k)
 pair-end y k end = omega arith
@@ -73,7 +78,7 @@ again c =
     let in-loop = first .before .before in
     let l = in-loop .before .loop in
     let start = in-loop .before .before in
-    let lt : l .y < start .args .end = in-loop .loop-test .taken in
+    let lt : l .y < start .args .end = before-end (l .inv .0) (in-loop .loop-test .taken) in
     let pair = start .pre .4 (l .y) lt (l .inv .1) in (
       pair .0,
       pair .1,
@@ -87,9 +92,7 @@ again c =
 returns : tie.Need-returns Inv-loop μ-loop
 returns c =
     let l = c .before .loop in
-    let end : ℕ = c .before .before .args .end in
-    let e : l .y ≡ end = omega (arith, l .inv .0, c .loop-test .left) in
-    (l .inv .2 ∙ sym (c .before .before .pre .0), λ n f h law. rw e at (l .inv .3 n f h law))
+    (l .inv .2 ∙ sym (c .before .before .pre .0), λ n f h law. rw (c .loop-test .left) at (l .inv .3 n f h law))
 
 pub doubled-spec : {M : Type 1} → statement M
 doubled-spec =

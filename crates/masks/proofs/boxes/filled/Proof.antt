@@ -8,7 +8,6 @@ use borrow.Author.Needs.{needs}
 use lib.Dec.{lit≤}
 use lib.ListN.{length}
 use Rattle.aes.specs.Byte.{_⊕_, table}
-use Rattle.aes.specs.Box.{sBox}
 use Rattle.aes.specs.State.{at}
 use Rattle.aes.specs.Held.{Holds}
 use Rattle.aes.proofs.Listed.{table-length}
@@ -18,21 +17,22 @@ use Rattle.masks.proofs.Row.{one-more, ended, row-size, row-lent}
 use Rattle.masks.proofs.boxes.filled.Statement.{statement}
 use Rattle.masks.proofs.boxes.filled.Tie as tie
 
-abbrev box : List ℕ → ℕ → ℕ → List ℕ
-box M d j = table (maskedBox M d j) 256
+abbrev box : (ℕ → ℕ) → List ℕ → ℕ → ℕ → List ℕ
+box S M d j = table (maskedBox S M d j) 256
 
-box-size : (M : List ℕ) (d j : ℕ) → length (box M d j) ≡ 256
-box-size M d j = table-length (maskedBox M d j) 256
+box-size : (S : ℕ → ℕ) (M : List ℕ) (d j : ℕ) → length (box S M d j) ≡ 256
+box-size S M d j = table-length (maskedBox S M d j) 256
 
 abbrev Inv-loop : tie.InvT-loop
-Inv-loop step boxes₀ masks s l₀ n₀ boxes l n = (n ≤ 16) × (l .0 ≡ n % 16) × Holds 4096 (inRow (box masks step) n) boxes
+Inv-loop lent step boxes₀ masks s l₀ n₀ boxes l n =
+    (n ≤ 16) × (l .0 ≡ n % 16) × (length boxes ≡ 4096) × ((S : ℕ → ℕ) → lent ≡ table S 256 → Holds 4096 (inRow (box S masks step) n) boxes)
 
 abbrev μ-loop : tie.MeasureT-loop
-μ-loop step boxes₀ masks s l₀ n₀ boxes l n = 16 - n
+μ-loop lent step boxes₀ masks s l₀ n₀ boxes l n = 16 - n
 
 begin : tie.Need-loop-holds Inv-loop μ-loop
 unfolding inRow
-begin c = (lit≤ tt, refl, holds-none 4096 _ (c .before .before .before .before .before .pre))
+begin c = let start = c .before .before .before in (lit≤ tt, refl, start .pre .1, λ S e. holds-none 4096 _ (start .pre .1))
 
 fill-given : tie.Need-fill-requires Inv-loop μ-loop
 fill-given c κs =
@@ -54,29 +54,32 @@ again c =
     let next = read .before .before in
     let at-loop = next .before .before in
     let made = at-loop .before in
-    let sbox = made .before .before .before in
     let l = at-loop .loop in
-    let a = sbox .before .before .args in
-    let M : List ℕ = a .t1 in
+    let a = made .before .before .before .args in
+    let M : List ℕ = a .t2 in
     let n : ℕ = l .n in
+    let lt : n < 16 = next .before .loop-test .taken in
     let taken : read .read .result ≡ n % 16 = read .read .ensures ∙ l .inv .1 in
     let given : fill .before .before .read2 .result ≡ (n + a .step) % 16 =
     fill .before .before .read2 .ensures ∙ next .next .ensures .0 ∙ stepped (l .l .0) n (a .step) (l .inv .1) in (
-      one-more (next .before .loop-test .taken),
+      one-more lt,
       c .next2 .ensures .0 ∙ stepped (l .l .0) n 1 (l .inv .1),
-      row-lent (box M (a .step)) 256 (box-size M (a .step)) n 4096 (l .boxes) _ (room n (next .before .loop-test .taken)) (l .inv .2)
-          (fill .fill .ensures sBox (made .turned .ensures .1 sBox (sbox .sbox .ensures)) ∙ λ i. table (λ x. sBox (x ⊕ at M (taken i)) ⊕ at M (given i)) 256),
+      search needs,
+      λ S e.
+          row-lent (box S M (a .step)) 256 (box-size S M (a .step)) n 4096 (l .boxes) _ (room n lt) (l .inv .3 S e)
+          (fill .fill .ensures S (made .turned .ensures .1 S e) ∙ λ i. table (λ x. S (x ⊕ at M (taken i)) ⊕ at M (given i)) 256),
     )
 
 returns : tie.Need-returns Inv-loop μ-loop
 unfolding maskedBoxes
-returns c =
+returns c S e =
     let l = c .before .loop in
-    let a = c .before .before .before .before .before .before .before .args in
-    let e : l .n ≡ 16 = ended (l .inv .0) (c .loop-test .left) in
-    holds-all 4096 (inRow (box (a .t1) (a .step)) 16) (l .boxes) (rw e at (l .inv .2)) (row-size (box (a .t1) (a .step)) 256 (box-size (a .t1) (a .step)) 16)
+    let a = c .before .before .before .before .before .args in
+    let end : l .n ≡ 16 = ended (l .inv .0) (c .loop-test .left) in
+    holds-all 4096 (inRow (box S (a .t2) (a .step)) 16) (l .boxes) (rw end at (l .inv .3 S e)) (row-size (box S (a .t2) (a .step)) 256 (box-size S (a .t2) (a .step)) 16)
 
 pub filled-spec : {M : Type 1} → statement M
 filled-spec =
     tie.close
-    (tie.spec Inv-loop μ-loop (λ c κs. search needs) (λ c κs. search needs) begin (λ c. search needs) (λ c. search needs) (λ c κs. search needs) (λ c κs. search needs) (λ c. search needs) (λ c κs. search needs) (λ c. search needs) (λ c. search needs) (λ c. search needs) (λ c. search needs) fill-given (λ c κs. search needs) (λ c. search needs) (λ c. search needs) again (λ c. search needs) returns)
+    (tie.spec Inv-loop μ-loop (λ c κs. search needs) begin (λ c. search needs) (λ c. search needs) (λ c κs. search needs) (λ c κs. search needs) (λ c. search needs) (λ c κs. search needs) (λ c. search needs) (λ c. search needs) (λ c. search needs) (λ c. search needs) fill-given
+    (λ c κs. search needs) (λ c. search needs) (λ c. search needs) again (λ c. search needs) returns)

@@ -13,19 +13,20 @@ use Rattle.aes.specs.State.{at, state}
 use Rattle.aes.specs.Held.{Holds}
 use Rattle.aes.proofs.Part.{holds-none}
 use Rattle.aes.proofs.Xor.{xor-zero}
-use Rattle.masks.specs.Mask.{inRow, twice, compensation}
+use Rattle.masks.specs.Mask.{inRow, twice}
+use Rattle.masks.specs.Kinds.{constantOf}
 use Rattle.masks.proofs.Row.{one-more, ended, row-label}
-use Rattle.masks.proofs.Stored.{constant, compensation-size, laid-out}
-use Rattle.masks.proofs.Columns.{rowByte, first-four}
+use Rattle.masks.proofs.Stored.{laid-out}
+use Rattle.masks.proofs.Columns.{rowByte, constant, kind-sized, first-four}
 use Rattle.masks.proofs.constants.first_four.Statement.{statement}
 use Rattle.masks.proofs.constants.first_four.Tie as tie
 
 abbrev Inv-loop : tie.InvT-loop
-Inv-loop r₀ masks l₀ n₀ r l n =
-    (n ≤ 4) × (l .0 ≡ n % 16) × (length r ≡ 256) × ((M : List ℕ) → masks ≡ twice M → Holds 256 (table (rowByte (constant M)) (16 * n)) r)
+Inv-loop kind r₀ masks l₀ n₀ r l n =
+    (n ≤ 4) × (l .0 ≡ n % 16) × (length r ≡ 256) × ((M : List ℕ) → masks ≡ twice M → Holds 256 (table (rowByte (constant kind M)) (16 * n)) r)
 
 abbrev μ-loop : tie.MeasureT-loop
-μ-loop r₀ masks l₀ n₀ r l n = 4 - n
+μ-loop kind r₀ masks l₀ n₀ r l n = 4 - n
 
 begin : tie.Need-loop-holds Inv-loop μ-loop
 unfolding table
@@ -40,17 +41,22 @@ room n lt = omega (arith, lt)
 row-lent : tie.Need-row-requires Inv-loop μ-loop
 row-lent c κs =
     let made = c .before .before in
-    let l = made .before .before .loop in (
-      rw (made .compensation .ensures, compensation-size) (lit≤ tt),
-      rw (l .inv .2) (room (l .n) (made .before .loop-test .taken)),
+    let in-loop = made .before .before in
+    let l = in-loop .before .loop in
+    let kind = in-loop .before .before .before .before .args .kind in (
+      rw (made .constant .ensures, kind-sized kind (made .before .mask .result)) (lit≤ tt),
+      rw (l .inv .2) (room (l .n) (in-loop .loop-test .taken)),
     )
 
 again : tie.Need-loop-again Inv-loop μ-loop
 again c =
     let stored = c .before .before .before in
     let made = stored .before .before .before in
-    let in-loop = made .before in
+    let laid = made .before in
+    let in-loop = laid .before in
     let l = in-loop .before .loop in
+    let kind = in-loop .before .before .before .before .args .kind in
+    let f : List ℕ → List ℕ = constantOf kind in
     let n : ℕ = l .n in
     let lt : n < 4 = in-loop .loop-test .taken in
     let label : l .l .0 ≡ n = l .inv .1 ∙ small n lt in
@@ -59,9 +65,9 @@ again c =
       c .next .ensures .0 ∙ row-label (l .l .0) n (l .inv .1),
       stored .row .ensures .0 ∙ l .inv .2,
       λ M e.
-          let from : List ℕ → List ℕ = λ t. compensation (state (λ i. at t (l .l .0 % 16 + i))) in
-          rw next at (stored .row .ensures .1 256 (rowByte (constant M)) (l .inv .3 M e)
-          (λ i hi. xor-zero _ ∙ ap₂ at (made .compensation .ensures ∙ ap from e ∙ ap compensation (laid-out M (l .l .0)) ∙ ap (constant M) label) (zero-add i) ∙ ap₂ (λ (j k : ℕ). at (constant M j) k) (omega (arith, hi)) (omega (arith, hi)))),
+          let from : List ℕ → List ℕ = λ t. f (state (λ i. at t (l .l .0 % 16 + i))) in
+          rw next at (stored .row .ensures .1 256 (rowByte (constant kind M)) (l .inv .3 M e)
+          (λ i hi. xor-zero _ ∙ ap₂ at (made .constant .ensures ∙ ap f (laid .mask .ensures) ∙ ap from e ∙ ap f (laid-out M (l .l .0)) ∙ ap (constant kind M) label) (zero-add i) ∙ ap₂ (λ (j k : ℕ). at (constant kind M j) k) (omega (arith, hi)) (omega (arith, hi)))),
     )
 
 returns : tie.Need-returns Inv-loop μ-loop
@@ -69,10 +75,10 @@ returns c =
     let l = c .before .loop in
     let e : l .n ≡ 4 = ended (l .inv .0) (c .loop-test .left) in
     let made = c .before .before in
-    let M : List ℕ = made .before .before .args .masks in
-    rw (first-four M) (rw e at (l .inv .3 M (made .twice .ensures)))
+    let a = made .before .before .args in
+    rw (first-four (a .kind) (a .masks)) (rw e at (l .inv .3 (a .masks) (made .twice .ensures)))
 
 pub first-four-spec : {M : Type 1} → statement M
 first-four-spec =
     tie.close
-    (tie.spec Inv-loop μ-loop (λ c κs. search needs) begin (λ c κs. search needs) (λ c. search needs) (λ c. search needs) row-lent (λ c κs. search needs) (λ c. search needs) (λ c. search needs) again (λ c. search needs) returns)
+    (tie.spec Inv-loop μ-loop (λ c κs. search needs) begin (λ c κs. search needs) (λ c κs. search needs) (λ c. search needs) (λ c. search needs) row-lent (λ c κs. search needs) (λ c. search needs) (λ c. search needs) again (λ c. search needs) returns)

@@ -6,10 +6,10 @@ use Rattle.vectors.proofs.calls.chain.Statement.{statement}
 use Rattle.vectors.proofs.calls.chain.Tie as tie
 
 abbrev Inv-loop : tie.InvT-loop
-Inv-loop call times schedule end block₀ i₀ block i = i ≤ times
+Inv-loop way times schedule end block₀ i₀ block i = i ≤ times
 
 abbrev μ-loop : tie.MeasureT-loop
-μ-loop call times schedule end block₀ i₀ block i = times - i
+μ-loop way times schedule end block₀ i₀ block i = times - i
 
 pub chain-spec : {M : Type 1} → statement M
 chain-spec =

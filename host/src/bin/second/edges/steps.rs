@@ -1,10 +1,11 @@
 //! Steps: which are refused, and the masks that the others bring.
 
+use super::records::{Recorded, DECRYPTION, ENCRYPTION};
 use super::{edge, Edge};
 use crate::masked::PUBLISHED;
 use slipgrease::calls;
 
-/// 0, 2, 3 and above 15, behind the offset, before form and record.
+/// 0, 2, 3 and above 15, behind the offset, before the form.
 pub fn refused() -> Vec<Edge> {
     let (w, block) = ([0; 240], [0; 16]);
     let mut edges = Vec::new();
@@ -30,10 +31,13 @@ pub fn refused() -> Vec<Edge> {
         edges.push(edge(name("published masks"), published, expected));
         edges.push(edge(name("any masks"), masked, expected));
         edges.push(edge(name("many blocks"), many, expected));
-    }
-    for (offset, step, length, expected) in [(0, 2, 1135, 15), (16, 2, 1135, 6), (0, 4, 1135, 8), (0, 4, 1136, 0)] {
-        let recorded = calls::record_masked(&w, &block, &PUBLISHED, offset, step, &mut vec![0; length]);
-        edges.push(edge(format!("reply to offset {offset}, step {step}, record of {length}"), recorded, expected));
+        if form == 0 {
+            let name = |call: &str| format!("reply to offset {offset}, step {step}, {call}, decrypting");
+            let published = calls::decrypt_published(&w, &block, &mut [0; 16], offset, step);
+            let masked = calls::decrypt_masked(&w, &block, &mut [0; 16], &PUBLISHED, offset, step);
+            edges.push(edge(name("published masks"), published, expected));
+            edges.push(edge(name("any masks"), masked, expected));
+        }
     }
     edges.extend([
         edge("reply to step 2, no blocks", calls::encrypt_blocks(&w, &[], &mut [], &[], 2, 0), 15),
@@ -45,11 +49,11 @@ pub fn refused() -> Vec<Edge> {
 
 /// Positions count by one and rounds by the step. M0, M4 .. M6 are 00, 53, 5c, 65.
 pub fn masks() -> Vec<Edge> {
-    let (mut w, mut plain, mut masked) = ([0; 240], [1; 1136], [2; 1136]);
-    calls::expand_key(&[3; 32], &mut w);
-    calls::record_plain(&w, &[4; 16], &mut plain);
-    calls::record_masked(&w, &[4; 16], &PUBLISHED, 0, 5, &mut masked);
-    let cover = |point: usize, byte: usize| plain[16 * point + byte] ^ masked[16 * point + byte];
+    let covers = |recorded: &Recorded| {
+        let (plain, masked) = (recorded.bytes(&[0; 16], 0, 5), recorded.bytes(&PUBLISHED, 0, 5));
+        move |point: usize, byte: usize| plain[16 * point + byte] ^ masked[16 * point + byte]
+    };
+    let (cover, cover_back) = (covers(&ENCRYPTION), covers(&DECRYPTION));
     vec![
         edge("mask at step 5 after key 0, byte 0, label 0", cover(1, 0), 0x00),
         edge("mask at step 5 after key 0, byte 4, label 4", cover(1, 4), 0x53),
@@ -57,5 +61,15 @@ pub fn masks() -> Vec<Edge> {
         edge("mask at step 5 after compensation 0, byte 0, label 5", cover(5, 0), 0x5c),
         edge("mask at step 5 after compensation 0, byte 15, label 20", cover(5, 15), 0x53),
         edge("mask at step 5 after boxes 13, byte 0, label 70", cover(67, 0), 0x65),
+        edge("mask at step 5 after key 14, byte 4, label 4, decrypting", cover_back(1, 4), 0x53),
+        edge("the same after InvShiftRows 0, byte 8, label 8", cover_back(2, 8), 0x95),
+        edge("the same after InvShiftRows 0, byte 5, label 1", cover_back(2, 5), 0x0f),
+        edge("the same after its correction, byte 5, label 5", cover_back(3, 5), 0x5c),
+        edge("the same after boxes 0, byte 0, label 5", cover_back(4, 0), 0x5c),
+        edge("the same after key 13, byte 1, label 6", cover_back(5, 1), 0x65),
+        edge("the same after the last correction of round 0, byte 15", cover_back(7, 15), 0x53),
+        edge("the same after boxes 13, byte 0, label 70", cover_back(82, 0), 0x65),
+        edge("the same after key 0, byte 15, label 85", cover_back(83, 15), 0x5c),
+        edge("the same at the end, byte 15, no mask", cover_back(84, 15), 0x00),
     ]
 }

@@ -8,12 +8,14 @@ const TAKEN: [u8; 13] = [1, 4, 5, 6, 7, 8, 9, 10, 11, 12, 13, 14, 15];
 const REFUSED: &str = "the step is 0, 2, 3 or above 15, or 1 in a sheet of version 2 (reply 15, STEP_WRONG)";
 
 #[test]
-fn the_module_makes_the_ciphertext_with_every_step() {
+fn the_module_makes_the_ciphertext_and_the_plaintext_with_every_step() {
     for step in TAKEN {
-        for offset in 0..16 {
-            assert_eq!(printed(&format!("mask --offset {offset} --step {step} {KEY} {BLOCK}")).trim(), CIPHERTEXT);
+        for (command, block, made) in [("mask", BLOCK, CIPHERTEXT), ("unmask", CIPHERTEXT, BLOCK)] {
+            for offset in 0..16 {
+                assert_eq!(printed(&format!("{command} --offset {offset} --step {step} {KEY} {block}")).trim(), made);
+            }
+            assert_eq!(printed(&format!("{command} --step {step} --offset 7 --masks {BLOCK} {KEY} {block}")).trim(), made);
         }
-        assert_eq!(printed(&format!("mask --step {step} --offset 7 --masks {BLOCK} {KEY} {BLOCK}")).trim(), CIPHERTEXT);
         let pipe = printed(&format!("pipe --step {step} {KEY} {BLOCK}"));
         assert!(pipe.contains(&format!("the published masks, step {step}, at each offset\n")));
         assert!(pipe.contains("\n16 of 16 offsets give the rack's key. "));
@@ -73,8 +75,11 @@ fn a_step_that_is_not_taken_is_a_caller_fault() {
         for line in [
             format!("mask --offset 0 --step {step} {KEY} {BLOCK}"),
             format!("mask --offset 0 --step {step} --masks {PUBLISHED} {KEY} {BLOCK}"),
+            format!("unmask --offset 0 --step {step} {KEY} {BLOCK}"),
+            format!("unmask --offset 0 --step {step} --masks {PUBLISHED} {KEY} {BLOCK}"),
             format!("blocks --offsets 00 --step {step} {KEY} {BLOCK}"),
             format!("record --offset 0 --step {step} {KEY} {BLOCK}"),
+            format!("record --decrypt --offset 0 --step {step} {KEY} {BLOCK}"),
             format!("pipe --step {step} {KEY} {BLOCK}"),
             format!("vectors --step {step} none.txt"),
             format!("sheet write --step {step} {PUBLISHED}"),
@@ -124,9 +129,9 @@ fn a_step_stands_where_it_has_a_meaning() {
 fn vectors_are_run_with_a_step() {
     let file = std::env::temp_dir().join(format!("slipgrease-step-{}", std::process::id()));
     fs::write(&file, format!("{KEY} {BLOCK} {CIPHERTEXT}\n")).unwrap();
-    assert_eq!(printed(&format!("vectors --step 5 {}", file.display())), "vectors 1, compared 18, differ 0\n");
+    assert_eq!(printed(&format!("vectors --step 5 {}", file.display())), "vectors 1, compared 34, differ 0\n");
     fs::write(&file, format!("{KEY} {BLOCK} {BLOCK}\n")).unwrap();
     let (out, _) = typed(&format!("vectors --step 5 {}", file.display()), "");
-    assert!(out.contains("line 1, mask --offset 3 --step 5: made "));
+    assert!(out.contains("line 1, mask --offset 3 --step 5: made ") && out.contains("line 1, unmask --offset 3 --step 5: made "));
     fs::remove_file(file).unwrap();
 }

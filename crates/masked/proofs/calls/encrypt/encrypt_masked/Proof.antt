@@ -5,7 +5,7 @@ use mathlib.Core.Path.{_∙_}
 use borrow.Author.Needs.{needs}
 use Rattle.aes.specs.Reply.{Check}
 use Rattle.aes.proofs.Replies.{telling, refused, passed}
-use Rattle.masked.specs.Run.{maskedCipher}
+use Rattle.runs.specs.Run.{maskedCipher}
 use Rattle.masked.specs.Calls.{checks}
 use Rattle.masked.proofs.Checked.{sizes}
 use Rattle.masked.proofs.calls.encrypt.encrypt_masked.Statement.{statement}
@@ -36,7 +36,7 @@ lent c κs =
     let passed-on = boxes .before .before .before in
     let a = passed-on .before .before .before .before .before .before .before .args in
     let s = sizes (a .schedule .now) (a .input .now) (a .output .now) (a .masks .now) (a .offset) (a .step) (a .form) (passed-on .before .refusal .ensures) (passed-on .if1 .left) in
-    (s .schedule, boxes .boxes2 .ensures, constants .compensations2 .ensures, s .output, boxes .before .before .lent .ensures .2)
+    (s .schedule, boxes .boxes2 .ensures, constants .constants .ensures, s .output, boxes .before .before .lent .ensures .2)
 
 returns-2 : tie.Need-returns-2
 unfolding telling

@@ -4,10 +4,11 @@ use mathlib.Core.List.{List, []}
 use mathlib.Core.Path.{_≡_, sym, ap, _∙_}
 use Prim.Native.Nat.{ℕ}
 use borrow.Author.Needs.{needs}
+use Rattle.aes.specs.Box.{sBox}
 use Rattle.aes.specs.Reply.{Check, refusal}
 use Rattle.aes.proofs.Replies.{telling, refused, passed}
-use Rattle.masks.specs.Mask.{published, maskedBoxes, allCompensations}
-use Rattle.masked.specs.Run.{maskedCipher}
+use Rattle.masks.specs.Mask.{published, maskedBoxes, compensation, constants}
+use Rattle.runs.specs.Run.{maskedCipher}
 use Rattle.masked.specs.Calls.{publishedChecks}
 use Rattle.masked.proofs.Checked.{published-refusal, sizes}
 use Rattle.masked.proofs.calls.encrypt.encrypt_published.Statement.{statement}
@@ -31,19 +32,19 @@ block-lent c κs =
 stepped-lent : tie.Need-stepped-requires
 stepped-lent c κs =
     let boxes = c .before in
-    boxes .boxes .ensures ∙ ap (λ (M : List ℕ). maskedBoxes M 1) (sym (boxes .before .published .ensures .0))
+    boxes .boxes .ensures ∙ ap (λ (M : List ℕ). maskedBoxes sBox M 1) (sym (boxes .before .published .ensures .0))
 
 lent : tie.Need-unrecorded-requires
 lent c κs =
-    let constants = c .before .before .before .before in
-    let boxes = constants .before in
+    let stored = c .before .before .before .before in
+    let boxes = stored .before in
     let masks = boxes .before .before .before in
     let passed-on = masks .before in
     let a = passed-on .before .before .before .before .before .before .args in
     let s = sizes (a .schedule .now) (a .input .now) (a .output .now) (a .input .now) (a .offset) (a .step) (a .form) (passed-on .before .refusal .ensures) (passed-on .if1 .left) in (
       s .schedule,
       boxes .stepped .ensures,
-      constants .stored-compensations .ensures ∙ ap allCompensations (sym (masks .published .ensures .0)),
+      stored .compensations .ensures ∙ ap (constants compensation) (sym (masks .published .ensures .0)),
       s .output,
       masks .published .ensures .2,
     )

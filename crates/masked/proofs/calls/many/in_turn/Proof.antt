@@ -6,23 +6,24 @@ use Prim.Native.Nat.{ℕ, _+_, _-_, _*_, _≤_, _<_}
 use native.Mathlib.Omega.{arith}
 use borrow.Author.Needs.{needs}
 use lib.ListN.{length, take, drop}
+use Rattle.aes.specs.Box.{sBox}
 use Rattle.aes.specs.State.{at}
 use Rattle.aes.specs.Held.{Holds}
 use Rattle.aes.proofs.Part.{holds-none, holds-all}
-use Rattle.masks.specs.Mask.{published, maskedBoxes, allCompensations, inRow}
-use Rattle.masked.specs.Run.{maskedCipher}
-use Rattle.masked.specs.Lent.{inTurn}
+use Rattle.masks.specs.Mask.{published, maskedBoxes, compensation, constants, inRow}
+use Rattle.runs.specs.Run.{maskedCipher}
+use Rattle.masked.specs.Calls.{inTurn}
 use Rattle.masks.proofs.Row.{one-more, ended, row-size, row-lent}
 use Rattle.masked.proofs.Batch.{masked-size}
 use Rattle.masked.proofs.calls.many.in_turn.Statement.{statement}
 use Rattle.masked.proofs.calls.many.in_turn.Tie as tie
 
 abbrev Inv-loop : tie.InvT-loop
-Inv-loop schedule input output₀ offsets step masks boxes compensations k₀ output k =
+Inv-loop schedule input output₀ offsets step caller masks boxes compensations k₀ output k =
     (k ≤ length offsets) × Holds (16 * length offsets) (inRow (inTurn schedule input offsets step) k) output
 
 abbrev μ-loop : tie.MeasureT-loop
-μ-loop schedule input output₀ offsets step masks boxes compensations k₀ output k = length offsets - k
+μ-loop schedule input output₀ offsets step caller masks boxes compensations k₀ output k = length offsets - k
 
 begin : tie.Need-loop-holds Inv-loop μ-loop
 unfolding inRow
@@ -40,18 +41,18 @@ block-lent c κs = c .lent-arg .given .2 ∙ width (c .before .before .loop .k)
 stepped-lent : tie.Need-stepped-requires Inv-loop μ-loop
 stepped-lent c κs =
     let boxes = c .before in
-    boxes .boxes .ensures ∙ ap (λ (M : List ℕ). maskedBoxes M 1) (sym (boxes .before .published .ensures .0))
+    boxes .boxes .ensures ∙ ap (λ (M : List ℕ). maskedBoxes sBox M 1) (sym (boxes .before .published .ensures .0))
 
 lent : tie.Need-unrecorded-requires Inv-loop μ-loop
 lent c κs =
     let at-loop = c .before .before .before .before .before .before .before in
-    let constants = at-loop .before in
-    let boxes = constants .before in
+    let stored = at-loop .before in
+    let boxes = stored .before in
     let masks = boxes .before .before .before in
-    let start = constants .before .before .before .before .before .before .before .before .before in (
+    let start = stored .before .before .before .before .before .before .before .before .before in (
       start .pre .0,
       boxes .stepped .ensures,
-      constants .stored-compensations .ensures ∙ ap allCompensations (sym (masks .published .ensures .0)),
+      stored .compensations .ensures ∙ ap (constants compensation) (sym (masks .published .ensures .0)),
       c .unrecorded-arg .given .2 ∙ width (at-loop .loop .k),
       masks .published .ensures .2,
     )

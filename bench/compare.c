@@ -1,0 +1,168 @@
+// The comparison of the C translation with the library.
+#include <string.h>
+
+#include "expect.h"
+
+enum { CASES = 2 };
+
+// Steps at the edges between those that are taken and the others.
+enum { EDGES = 8 };
+static const uint8_t edges[EDGES] = {0, 1, 2, 3, 4, 15, 16, 255};
+
+// Numbers for inputs, the same in every run.
+static void draw(uint8_t *bytes, size_t length)
+{
+    static uint64_t seed = 1;
+    for (size_t i = 0; i < length; i++) {
+        seed = seed * 6364136223846793005 + 1442695040888963407;
+        bytes[i] = (uint8_t)(seed >> 56);
+    }
+}
+
+// A call of both engines: lengths, offset, step and form are given, and everything that a call can write is compared, reply and
+// bytes.
+struct arguments {
+    size_t key, schedule, input, output, masks, states, offsets;
+    // Of many offsets this is the last; those before it are in range.
+    uint8_t offset, step, form;
+};
+
+static void compare(enum call call, const struct arguments *a, size_t number)
+{
+    uint8_t key[KEY_BYTES + 1], schedule[SCHEDULE_BYTES + 1], input[LONGEST], masks[MASK_BYTES + 1], offsets[MOST_BLOCKS + 1];
+    uint8_t written[2][LONGEST], reply[2];
+
+    draw(key, sizeof key);
+    draw(schedule, sizeof schedule);
+    draw(input, a->input);
+    draw(masks, sizeof masks);
+    draw(offsets, a->offsets);
+    for (size_t k = 0; k < a->offsets; k++)
+        offsets[k] = k + 1 < a->offsets ? offsets[k] % 16 : a->offset;
+    memset(written, UNTOUCHED, sizeof written);
+    for (size_t i = 0; i < 2; i++) {
+        const struct engine *e = engines[i];
+        uint8_t *to = written[i];
+        switch (call) {
+        case EXPAND_KEY:
+            reply[i] = e->expand_key(key, a->key, to, a->schedule);
+            break;
+        case ENCRYPT:
+            reply[i] = e->encrypt(schedule, a->schedule, input, a->input, to, a->output);
+            break;
+        case DECRYPT:
+            reply[i] = e->decrypt(schedule, a->schedule, input, a->input, to, a->output);
+            break;
+        case ENCRYPT_PUBLISHED:
+            reply[i] = e->encrypt_published(schedule, a->schedule, input, a->input, to, a->output, a->offset, a->step,
+                                            a->form);
+            break;
+        case ENCRYPT_BLOCKS:
+            reply[i] = e->encrypt_blocks(schedule, a->schedule, input, a->input, to, a->output, offsets, a->offsets, a->step,
+                                         a->form);
+            break;
+        case ENCRYPT_MASKED:
+            reply[i] = e->encrypt_masked(schedule, a->schedule, input, a->input, to, a->output, masks, a->masks, a->offset,
+                                         a->step, a->form);
+            break;
+        case RECORD_PLAIN:
+            reply[i] = e->record_plain(schedule, a->schedule, input, a->input, to, a->states);
+            break;
+        case RECORD_MASKED:
+            reply[i] = e->record_masked(schedule, a->schedule, input, a->input, masks, a->masks, a->offset, a->step, to,
+                                        a->states);
+            break;
+        case DECRYPT_PUBLISHED:
+            reply[i] = e->decrypt_published(schedule, a->schedule, input, a->input, to, a->output, a->offset, a->step);
+            break;
+        case DECRYPT_MASKED:
+            reply[i] = e->decrypt_masked(schedule, a->schedule, input, a->input, to, a->output, masks, a->masks, a->offset,
+                                         a->step);
+            break;
+        default:
+            reply[i] = e->record_masked_decryption(schedule, a->schedule, input, a->input, masks, a->masks, a->offset, a->step,
+                                                   to, a->states);
+        }
+    }
+    expect(reply[0] == reply[1] && same(written[0], written[1], sizeof written[0]), 1, call, "comparison", number);
+}
+
+// What a call takes.
+static struct arguments taken_by(enum call call)
+{
+    size_t states = call == RECORD_MASKED_DECRYPTION ? DECRYPTION_RECORD_BYTES : RECORD_BYTES;
+    return (struct arguments){KEY_BYTES, SCHEDULE_BYTES, BLOCK_BYTES, BLOCK_BYTES, MASK_BYTES, states, 1, 0, 1, 0};
+}
+
+static void compare_taken(enum call call)
+{
+    struct arguments a = taken_by(call);
+    size_t number = 0;
+    for (size_t i = 0; i < CASES * STEPS; i++) {
+        a.step = steps[i % STEPS];
+        for (a.offset = 0; a.offset < 16; a.offset++)
+            compare(call, &a, ++number);
+    }
+}
+
+// Each of the arguments too small, right or too great, all together, with each of the steps at the edges.
+static void compare_refused(enum call call)
+{
+    const struct arguments taken = taken_by(call);
+    struct arguments a = taken;
+    for (size_t choice = 0; choice < 3 * 3 * 3 * 3 * 3 * 3 * 2 * 2 * EDGES; choice++) {
+        size_t rest = choice;
+        a.key = taken.key - 1 + rest % 3;
+        a.schedule = taken.schedule - 1 + (rest /= 3) % 3;
+        a.input = taken.input - 1 + (rest /= 3) % 3;
+        a.output = taken.output - 1 + (rest /= 3) % 3;
+        a.masks = taken.masks - 1 + (rest /= 3) % 3;
+        a.states = taken.states - 1 + (rest /= 3) % 3;
+        a.offset = (uint8_t)(15 + (rest /= 3) % 2);
+        a.form = (uint8_t)((rest /= 2) % 2);
+        a.step = edges[rest / 2];
+        compare(call, &a, choice + 1);
+    }
+}
+
+// Every number of blocks that is taken, none too.
+static void compare_many_taken(void)
+{
+    struct arguments a = taken_by(ENCRYPT_BLOCKS);
+    for (a.offsets = 0; a.offsets <= MOST_BLOCKS; a.offsets++) {
+        a.input = a.output = BLOCK_BYTES * a.offsets;
+        a.offset = (uint8_t)(a.offsets % 16);
+        a.step = steps[a.offsets % STEPS];
+        compare(ENCRYPT_BLOCKS, &a, a.offsets);
+    }
+}
+
+// Lengths about no block, one block and the most, each with each, an offset and a form that are right or too great, and steps at
+// the edges.
+static void compare_many_refused(void)
+{
+    static const size_t lengths[] = {0, 15, 16, 17, 4095, 4096, 4097, 4112}, counts[] = {0, 1, 2, 255, 256, 257};
+    const struct arguments taken = taken_by(ENCRYPT_BLOCKS);
+    struct arguments a = taken;
+    for (size_t choice = 0; choice < 8 * 8 * 6 * 3 * 2 * 2 * EDGES; choice++) {
+        size_t rest = choice;
+        a.input = lengths[rest % 8];
+        a.output = lengths[(rest /= 8) % 8];
+        a.offsets = counts[(rest /= 8) % 6];
+        a.schedule = taken.schedule - 1 + (rest /= 6) % 3;
+        a.offset = (uint8_t)(15 + (rest /= 3) % 2);
+        a.form = (uint8_t)((rest /= 2) % 2);
+        a.step = edges[rest / 2];
+        compare(ENCRYPT_BLOCKS, &a, choice + 1);
+    }
+}
+
+void compare_engines(void)
+{
+    compare_many_taken();
+    compare_many_refused();
+    for (int call = 0; call < CALLS; call++) {
+        compare_taken((enum call)call);
+        compare_refused((enum call)call);
+    }
+}

@@ -1,0 +1,16 @@
+-- Sixteen bytes are all of sixteen.
+-- Assumes nothing.
+use mathlib.Core.Path.{refl, _∙_}
+use borrow.Author.Needs.{needs}
+use Rattle.lent.proofs.Whole.{all-sixteen}
+use Rattle.lent.proofs.given.Masks.lent.Statement.{statement}
+use Rattle.lent.proofs.given.Masks.lent.Tie as tie
+
+returns : tie.Need-returns
+returns c =
+    let block = c .before in
+    let start = block .before .before in
+    (block .sixteen .ensures ∙ all-sixteen (start .args .masks .now) (start .pre), refl, c .twice .ensures)
+
+pub lent-spec : {M : Type 1} → statement M
+lent-spec = tie.close (tie.spec (λ c κs. search needs) (λ c κs. search needs) returns)

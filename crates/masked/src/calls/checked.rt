@@ -1,0 +1,58 @@
+// What the calls for one block check, in the order of their replies.
+ghost use mathlib.Core.Path.{_≡_};
+ghost use Rattle.aes.specs.Reply.{refusal};
+ghost use Rattle.masked.specs.Calls.{checks, recordChecks};
+use super::chosen;
+use aes::reply;
+
+// The number of the first check that fails, in their order.
+pub(crate) fn refusal(
+    schedule: &[u8],
+    input: &[u8],
+    output: &[u8],
+    masks: &[u8],
+    offset: u8,
+    step: u8,
+    form: u8,
+) -> u8
+    ensures { λ r. ⌜ r ≡ refusal (checks (now (schedule .entry)) (now (input .entry)) (now (output .entry)) (now (masks .entry)) offset step form) ⌝ }
+{
+    if schedule.len() != 240 {
+        return reply::SCHEDULE_LENGTH;
+    }
+    if input.len() != 16 {
+        return reply::INPUT_LENGTH;
+    }
+    if output.len() != 16 {
+        return reply::OUTPUT_LENGTH;
+    }
+    if masks.len() != 16 {
+        return reply::MASKS_LENGTH;
+    }
+    if 15 < offset {
+        return reply::OFFSET_RANGE;
+    }
+    chosen::refusal(step, form)
+}
+
+// The same of a record that is to have so many bytes. No output is lent: the input, of which the same length is asked, stands for it.
+pub(crate) fn record_refusal(
+    schedule: &[u8],
+    input: &[u8],
+    masks: &[u8],
+    offset: u8,
+    step: u8,
+    states: &[u8],
+    size: usize,
+) -> u8
+    ensures { λ r. ⌜ r ≡ refusal (recordChecks size (now (schedule .entry)) (now (input .entry)) (now (masks .entry)) offset step (now (states .entry))) ⌝ }
+{
+    let refusal = refusal(schedule, input, input, masks, offset, step, 0);
+    if refusal != reply::DONE {
+        return refusal;
+    }
+    if states.len() != size {
+        return reply::RECORD_LENGTH;
+    }
+    reply::DONE
+}

@@ -1,0 +1,62 @@
+// Runs the vectors of standard input on the calls of the masked engine that decrypt, at every offset with every step, and prints
+// how many of each source were run and how many differ.
+mod calls;
+mod table;
+
+use calls::tried;
+use covers::trial::Asked;
+use covers::trial::Trial;
+use lines::counts::CELLS;
+use lines::counts::report;
+use lines::input::read;
+use lines::input::room;
+use lines::source::Kind;
+use lines::source::kind_of;
+use lines::text::part;
+use lines::text::past;
+use lines::vector::Way;
+
+fn main() {
+    let mut text = room();
+    let n = read(&mut text);
+    let mut counts = [0u64; CELLS];
+    run(&text[0..n], &mut counts);
+    table::print(&counts);
+}
+
+// Runs the first line of a text, and answers whether it could be read.
+fn one_line(text: &[u8], counts: &mut [u64; CELLS]) -> bool {
+    let line = part(text, 0, b'\n');
+    let kind = kind_of(line, counts);
+    match kind {
+        Kind::Header => true,
+        Kind::Ecb => either(
+            Trial::of_vector(Asked::Block, Way::Decrypt, line),
+            table::PUBLISHED_ECB,
+            table::OTHER_ECB,
+            counts,
+        ),
+        Kind::DecryptedChain => either(
+            Trial::of_vector(Asked::Chain, Way::Decrypt, line),
+            table::PUBLISHED_CHAINS,
+            table::OTHER_CHAINS,
+            counts,
+        ),
+        Kind::Step => either(Trial::of_step(line), table::STEPS, table::STEPS, counts),
+        _ => false,
+    }
+}
+
+// By either call, each counted in its row.
+fn either(trial: Trial, published: usize, other: usize, counts: &mut [u64; CELLS]) -> bool {
+    tried(false, trial, published, counts);
+    tried(true, trial, other, counts)
+}
+
+fn run(text: &[u8], counts: &mut [u64; CELLS]) {
+    let mut at = 0;
+    while at < text.len() {
+        report(one_line(&text[at..], counts), counts);
+        at = past(text, at, b'\n');
+    }
+}

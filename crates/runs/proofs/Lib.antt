@@ -1,0 +1,9 @@
+pub mod Labels
+pub mod Agreeing
+pub mod LentSteps
+pub mod BackSteps
+pub mod BackPointSteps
+pub mod BackRecord
+pub mod Points
+pub mod Owned
+pub mod Unique

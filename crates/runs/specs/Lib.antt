@@ -1,0 +1,3 @@
+pub mod Run
+pub mod Back
+pub mod Lent

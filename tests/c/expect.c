@@ -1,0 +1,55 @@
+#include "expect.h"
+
+#include <stdio.h>
+#include <string.h>
+
+const char *spoiled = "";
+int faults;
+
+void number(const char *call, unsigned given, unsigned expected)
+{
+    if (strcmp(call, spoiled) == 0)
+        expected++;
+    if (given != expected) {
+        printf("%s: %u, and should be %u\n", call, given, expected);
+        faults = 1;
+    }
+}
+
+void packed(const char *call, uint16_t given, unsigned reply, unsigned value)
+{
+    number(call, SLIPGREASE_NUMBER(given), reply);
+    number(call, SLIPGREASE_VALUE(given), value);
+}
+
+void block(const char *call, const uint8_t *given, const char *expected)
+{
+    char digits[33];
+    for (int i = 0; i < 16; i++)
+        sprintf(digits + 2 * i, "%02x", given[i]);
+    if (strcmp(call, spoiled) == 0)
+        expected = "spoiled";
+    if (strcmp(digits, expected) != 0) {
+        printf("%s: %s, and should be %s\n", call, digits, expected);
+        faults = 1;
+    }
+}
+
+void under(const char *call, const uint8_t *given, size_t label, const char *expected)
+{
+    uint8_t bare[16];
+    for (size_t i = 0; i < 16; i++)
+        bare[i] = given[i] ^ masks[(label + i) % 16];
+    block(call, bare, expected);
+}
+
+uint8_t reply_to_step(uint8_t d)
+{
+    return d == 0 || d == 2 || d == 3 || d > 15 ? SLIPGREASE_REPLY_STEP_WRONG : SLIPGREASE_REPLY_DONE;
+}
+
+const char plaintext[] = "00112233445566778899aabbccddeeff";
+const char ciphertext[] = "8ea2b7ca516745bfeafc49904b496089";
+uint8_t w[SLIPGREASE_SCHEDULE_BYTES];
+const uint8_t masks[SLIPGREASE_MASKS_BYTES] = {
+    0x00, 0x0f, 0x36, 0x39, 0x53, 0x5c, 0x65, 0x6a, 0x95, 0x9a, 0xa3, 0xac, 0xc6, 0xc9, 0xf0, 0xff};
