@@ -5,7 +5,6 @@ use mathlib.Core.List.{List}
 use Prim.Native.Nat.{ℕ}
 use Rattle.aes.proofs.Unique.{Unique, UniqueWriting}
 use Rattle.masks.specs.Mask.{twice}
-use Rattle.lent.specs.declared.given.Block.{Block}
 use Rattle.lent.specs.declared.given.Masks.{Masks}
 use Rattle.lent.proofs.blocks.sixteen.Reads as sixteen
 use Rattle.lent.proofs.given.Block.lent.Reads as block

@@ -1,12 +1,11 @@
 -- What a call that its checks let pass is lent, and the checks where one buffer stands for another.
 -- Assumes nothing.
 use mathlib.Core.Path.{_≡_, refl, sym, ap, _∙_}
-use mathlib.Core.Bool.{Bool, true, false, cond, not}
+use mathlib.Core.Bool.{Bool, true, false, cond}
 use mathlib.Core.List.{List, [], _∷_, _++_}
 use Prim.Native.Nat.{ℕ}
-use lib.Dec.{T, eqb, eqb→eq}
+use lib.Dec.{eqb, eqb→eq}
 use lib.ListN.{length}
-use mir.Facts.{and-yes}
 use Rattle.aes.specs.Reply.{Check, _else_, refusal, isSchedule, isInput, isOutput, isMaskTable, isOffset, isStep, isForm}
 use Rattle.aes.proofs.Replies.{AllHold, telling, all-hold}
 use Rattle.masked.specs.Calls.{checks, publishedChecks, recordChecks}

@@ -5,7 +5,7 @@ use mathlib.Core.List.{List}
 use Prim.Native.Nat.{ℕ, _+_, _-_, _*_, _/_, _%_, _≤_, _<_}
 use native.Mathlib.Omega.{arith}
 use lib.Dec.{lit<}
-use lib.ListN.{length, getD, take, set}
+use lib.ListN.{length, take, set}
 use lib.Bits.{xor-shr, xor-mod, xor-lt}
 use lib.Seq.{length-take-le, getD-take, ext-getD}
 use Rattle.aes.specs.Byte.{_⊕_, table}

@@ -1,10 +1,9 @@
 -- The step that belongs to point m after the covered block of a decryption: what it makes of a state, and what it leaves of label and
 -- round.
 -- Assumes nothing.
-use mathlib.Core.Path.{_≡_, refl, sym, ap, _∙_}
-use mathlib.Core.Bool.{Bool, true, false, cond}
+use mathlib.Core.Path.{_≡_, sym, ap, _∙_}
 use mathlib.Core.List.{List}
-use Prim.Native.Nat.{ℕ, zero, suc, _+_, _-_, _*_, _/_, _%_, _<_, _≤_}
+use Prim.Native.Nat.{ℕ, suc, _+_, _-_, _*_, _/_, _%_}
 use native.Mathlib.Omega.{arith}
 use borrow.Author.Tests.{ne-eqb}
 use lib.ListN.{getD}
@@ -12,7 +11,7 @@ use Rattle.aes.specs.State.{invShiftRows, invMixColumns}
 use Rattle.aes.specs.Key.{roundKey}
 use Rattle.masks.specs.Mask.{_⊞_}
 use Rattle.masks.specs.Order.{boxedBy}
-use Rattle.runs.specs.Back.{Back, block, keyed, unshifted, corrected, unboxed, unmixed, restored}
+use Rattle.runs.specs.Back.{block, restored}
 use Rattle.runs.specs.Lent.{backSteps, around, backPointAfter}
 use Rattle.runs.proofs.Labels.{advanced}
 

@@ -1,14 +1,14 @@
 -- The points of a decryption, gone through one by one.
 -- Assumes nothing.
-use mathlib.Core.Path.{_≡_, refl, sym, ap, _∙_}
+use mathlib.Core.Path.{_≡_, refl, ap, _∙_}
 use mathlib.Core.List.{List, [], _∷_, _++_, append-assoc}
-use Prim.Native.Nat.{ℕ, zero, suc, _+_, _-_, _*_, _/_, _%_, _<_, _≤_}
+use Prim.Native.Nat.{ℕ, zero, suc, _+_, _-_, _*_, _/_, _%_, _<_}
 use native.Mathlib.Omega.{arith}
-use lib.ListN.{length, getD}
+use lib.ListN.{getD}
 use Rattle.aes.specs.State.{invShiftRows, invMixColumns, addRoundKey}
 use Rattle.aes.proofs.Written.{Sized, turns}
 use Rattle.masks.specs.Order.{boxedBy}
-use Rattle.runs.specs.Back.{Back, block, keyed, unshifted, corrected, unboxed, unmixed, restored, uncovered, six, closing, sixes, backPoints}
+use Rattle.runs.specs.Back.{Back, block, keyed, unshifted, corrected, unboxed, unmixed, restored, uncovered, sixes, backPoints}
 use Rattle.runs.specs.Lent.{backSteps, around, backPointAfter}
 use Rattle.runs.proofs.BackPointSteps.{at-point, at-restored}
 

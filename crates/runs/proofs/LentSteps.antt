@@ -1,13 +1,13 @@
 -- The steps over stored boxes and constants are those of the masked run, and how a run of them goes on.
 -- Assumes nothing.
 use mathlib.Core.Path.{_≡_, refl, sym, ap, _∙_}
-use mathlib.Core.Bool.{Bool, true, false, cond, not, _&&_}
+use mathlib.Core.Bool.{Bool, true, false, cond, not}
 use mathlib.Core.List.{List, [], _∷_, _++_}
-use Prim.Native.Nat.{ℕ, zero, suc, _+_, _-_, _*_, _/_, _%_, _<_, _≤_}
+use Prim.Native.Nat.{ℕ, suc, _+_, _-_, _*_, _/_, _%_, _<_, _≤_}
 use native.Mathlib.Omega.{arith}
 use lib.Dec.{T, eqb, eqb→eq, lit≤}
 use lib.ListN.{length, getD}
-use mir.Facts.{and-yes, no-eqb}
+use mir.Facts.{no-eqb}
 use Rattle.aes.specs.Byte.{_⊕_, table}
 use Rattle.aes.specs.Box.{sBox}
 use Rattle.aes.specs.State.{at, shiftRows, mixColumns, addRoundKey, Bytes}

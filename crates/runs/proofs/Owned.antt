@@ -1,6 +1,5 @@
 -- What is known of an array that a struct taken by value holds: how many bytes it has, and that they are bytes.
 -- Assumes nothing.
-use mathlib.Core.Path.{_≡_}
 use mathlib.Core.List.{List, map}
 use Prim.Native.Nat.{ℕ}
 use mir.Syntax.{w8}

@@ -1,7 +1,7 @@
 -- Uniqueness: whatever the arguments, a promise allows one result, or one content of the lent place.
 -- Assumes nothing.
 use mathlib.Core.Path.{refl, sym, _∙_}
-use Rattle.aes.proofs.Unique.{Unique, UniqueWriting}
+use Rattle.aes.proofs.Unique.{UniqueWriting}
 use Rattle.runs.proofs.back.opened.Reads as opened
 use Rattle.runs.proofs.back.opened_recorded.Reads as opened-recorded
 use Rattle.runs.proofs.run.recorded.Reads as recorded

@@ -1,6 +1,6 @@
-// The steps of every masked run, one for each kind of recorded point; both keys of the last round are added by one. Each takes a
-// state as it is covered, gives the next and writes it to the part that it was lent. `cover` alone takes the bare block, and
-// `uncover` alone gives no state: the finished block stands in its part.
+// The steps of every masked run, one for each kind of recorded point; every key is added by one, and so is every compensation and
+// correction. Each takes a state as it is covered, gives the next and writes it to the part that it was lent. `cover` alone takes the
+// bare block, and `uncover` and `uncover_plain` alone give no state: the finished block stands in their part.
 ghost use mathlib.Core.Path.{_≡_};
 ghost use Prim.Native.Nat.{_+_, _*_, _%_, _<_, _≤_};
 ghost use lib.Dec.{eqb};

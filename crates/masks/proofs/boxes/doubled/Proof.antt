@@ -1,7 +1,6 @@
 -- Each turn fills one pair more, with what f has there.
 -- Assumes nothing.
-use mathlib.Core.List.{List}
-use mathlib.Core.Path.{_≡_, refl, sym, _∙_}
+use mathlib.Core.Path.{_≡_, sym, _∙_}
 use Prim.{⊥}
 use Prim.Native.Nat.{ℕ, _+_, _-_, _*_, _%_, _≤_, _<_}
 use native.Mathlib.Nat.{add-zero, zero-mod}
@@ -10,7 +9,7 @@ use borrow.Author.Needs.{needs}
 use lib.ListN.{length}
 use Rattle.aes.specs.Byte.{table}
 use Rattle.aes.specs.Held.{Holds}
-use Rattle.masks.specs.Parts.{Pairs, Exchanged}
+use Rattle.masks.specs.Parts.{Exchanged}
 use Rattle.masks.proofs.boxes.doubled.Statement.{statement}
 use Rattle.masks.proofs.boxes.doubled.Tie as tie
 

@@ -13,7 +13,7 @@ use Rattle.aes.specs.State.{at, state}
 use Rattle.aes.specs.Held.{Holds}
 use Rattle.aes.proofs.Part.{holds-none}
 use Rattle.aes.proofs.Xor.{xor-zero}
-use Rattle.masks.specs.Mask.{inRow, twice}
+use Rattle.masks.specs.Mask.{twice}
 use Rattle.masks.specs.Kinds.{constantOf}
 use Rattle.masks.proofs.Row.{one-more, ended, row-label}
 use Rattle.masks.proofs.Stored.{laid-out}

@@ -1,15 +1,13 @@
 -- Each turn fills one more entry, with what f has there.
 -- Assumes nothing.
-use mathlib.Core.List.{List}
-use mathlib.Core.Path.{_≡_, refl, _∙_}
+use mathlib.Core.Path.{_≡_, refl}
 use Prim.Native.Nat.{ℕ, _+_, _-_, _≤_, _<_}
 use native.Mathlib.Nat.{add-zero}
 use native.Mathlib.Omega.{arith}
 use borrow.Author.Needs.{needs}
 use lib.ListN.{length, length-set}
-use Rattle.aes.specs.Byte.{_⊕_, table}
+use Rattle.aes.specs.Byte.{_⊕_}
 use Rattle.aes.specs.State.{at}
-use Rattle.aes.specs.Held.{Holds}
 use Rattle.aes.proofs.Fill.{Filled}
 use Rattle.masks.proofs.Row.{one-more}
 use Rattle.masks.proofs.Turned.{filled-holds, holds-filled, filled-step}

@@ -1,7 +1,7 @@
 -- The checks, then mark, version and masks and, in version 2, the step.
 -- Assumes nothing.
-use mathlib.Core.List.{List, [], _∷_, _++_}
-use mathlib.Core.Path.{_≡_, ap, _∙_}
+use mathlib.Core.List.{List, [], _∷_}
+use mathlib.Core.Path.{_≡_, _∙_}
 use Prim.Native.Nat.{ℕ}
 use native.Mathlib.Omega.{arith}
 use borrow.Author.Needs.{needs}
@@ -12,8 +12,8 @@ use lib.Seq.{length-take-le}
 use Rattle.aes.specs.Reply.{Check, isStep, isSheetOf, isMaskTable}
 use Rattle.aes.proofs.Part.{back-room}
 use Rattle.aes.proofs.Replies.{telling, refused, passed}
-use Rattle.masks.specs.Sheet.{headed, sheetOf}
-use Rattle.masks.proofs.Headed.{at-least, with-step, Passed, writable, head-size, stepped-head, first-version, second-version}
+use Rattle.masks.specs.Sheet.{sheetOf}
+use Rattle.masks.proofs.Headed.{at-least, with-step, writable, head-size, stepped-head, first-version, second-version}
 use Rattle.masks.proofs.sheet.write_sheet.Statement.{statement}
 use Rattle.masks.proofs.sheet.write_sheet.Tie as tie
 

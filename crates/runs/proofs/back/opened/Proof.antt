@@ -1,6 +1,6 @@
 -- After each turn one round more is whole.
 -- Assumes nothing.
-use mathlib.Core.List.{List, [], _∷_, _++_}
+use mathlib.Core.List.{List, _∷_, _++_}
 use mathlib.Core.Path.{_≡_, refl, sym, ap, _∙_}
 use Prim.Native.Nat.{ℕ, suc, _+_, _-_, _*_, _%_, _<_, _≤_}
 use native.Mathlib.Omega.{arith}
@@ -16,7 +16,7 @@ use Rattle.masks.specs.Mask.{_⊞_, mask}
 use Rattle.masks.specs.Order.{boxedBy}
 use Rattle.runs.specs.Back.{Back, block, keyed, six, closing, sixes, backPoints, maskedInvCipher}
 use Rattle.runs.specs.Lent.{backSteps}
-use Rattle.runs.proofs.Labels.{first-label, same-label, advanced, label-below}
+use Rattle.runs.proofs.Labels.{first-label, advanced, label-below}
 use Rattle.runs.proofs.LentSteps.{reached-more, last-any}
 use Rattle.runs.proofs.BackSteps.{lent-back}
 use Rattle.runs.proofs.Owned.{field-bytes}

@@ -1,7 +1,7 @@
 -- After m turns the covered block and m states behind it stand in the record.
 -- Assumes nothing.
 use mathlib.Core.List.{List, [], _∷_, _++_}
-use mathlib.Core.Path.{_≡_, refl, sym, ap, _∙_}
+use mathlib.Core.Path.{_≡_, refl, ap, _∙_}
 use Prim.Native.Nat.{ℕ, _+_, _-_, _*_, _/_, _%_, _≤_, _<_}
 use native.Mathlib.Omega.{arith}
 use borrow.Author.Needs.{needs}
@@ -12,8 +12,8 @@ use Rattle.aes.proofs.Steps.{byte}
 use Rattle.aes.proofs.Undo.{add-size}
 use Rattle.aes.proofs.Written.{Written, turns, turns-length, recorded-one, written-first, written-turn, written-step, written-all}
 use Rattle.masks.specs.Mask.{_⊞_, mask}
-use Rattle.runs.specs.Back.{Back, block, uncovered, backPoints, maskedBackRecord}
-use Rattle.runs.specs.Lent.{backSteps, backPointAfter}
+use Rattle.runs.specs.Back.{Back, block, uncovered, maskedBackRecord}
+use Rattle.runs.specs.Lent.{backSteps}
 use Rattle.masks.proofs.Row.{one-more, ended}
 use Rattle.runs.proofs.Labels.{first-label, label-below}
 use Rattle.runs.proofs.BackSteps.{lent-back}

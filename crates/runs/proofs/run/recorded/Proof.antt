@@ -1,6 +1,6 @@
 -- After n turns the covered block and n states behind it stand in the record.
 -- Assumes nothing.
-use mathlib.Core.List.{List, _∷_}
+use mathlib.Core.List.{_∷_}
 use mathlib.Core.Path.{_≡_, refl, ap, _∙_}
 use Prim.Native.Nat.{ℕ, _+_, _-_, _*_, _/_, _%_, _≤_, _<_}
 use native.Mathlib.Omega.{arith}

@@ -1,7 +1,6 @@
 -- The first mask on the block, and that it is kept.
 -- Assumes nothing.
 use mathlib.Core.Path.{ap, _∙_}
-use mathlib.Core.List.{List}
 use Prim.Native.Nat.{ℕ}
 use borrow.Author.Needs.{needs}
 use Rattle.masks.specs.Mask.{_⊞_, mask}

@@ -1,10 +1,9 @@
 -- The checks, and then the run over boxes and constants that were worked out for the masks.
 -- Assumes nothing.
-use mathlib.Core.List.{List, []}
+use mathlib.Core.List.{[]}
 use mathlib.Core.Path.{_∙_}
 use borrow.Author.Needs.{needs}
 use lib.Dec.{lit<}
-use Rattle.aes.specs.Reply.{Check}
 use Rattle.aes.proofs.Replies.{telling, refused, passed}
 use Rattle.runs.specs.Back.{maskedInvCipher}
 use Rattle.masked.specs.Calls.{backChecks}

@@ -1,11 +1,9 @@
 -- A refusal changes nothing; past it stand the states of the recorded run.
 -- Assumes nothing.
-use mathlib.Core.List.{List, [], _∷_}
-use mathlib.Core.Path.{_≡_, refl, sym, ap, _∙_}
-use Prim.Native.Nat.{ℕ}
+use mathlib.Core.List.{[]}
+use mathlib.Core.Path.{_∙_}
 use borrow.Author.Needs.{needs}
 use Rattle.aes.specs.Record.{bytes}
-use Rattle.aes.specs.Reply.{Check}
 use Rattle.aes.proofs.Replies.{telling, refused, passed}
 use Rattle.runs.specs.Run.{maskedRecord}
 use Rattle.masked.specs.Calls.{recordChecks}
