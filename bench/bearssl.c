@@ -62,9 +62,9 @@ static const char *x86ni_name(void)
 }
 
 const struct peer bearssl_peers[] = {
-    {"bearssl-big", big_name, big_start, big_expand_key, big_encrypt, big_decrypt},
-    {"bearssl-small", small_name, small_start, small_expand_key, small_encrypt, small_decrypt},
-    {"bearssl-ct64", ct64_name, ct64_start, ct64_expand_key, ct64_encrypt, ct64_decrypt},
-    {"bearssl-x86ni", x86ni_name, x86ni_start, x86ni_expand_key, x86ni_encrypt, x86ni_decrypt},
+    {"bearssl-big", big_name, big_start, big_expand_key, big_encrypt, big_decrypt, NULL, NULL},
+    {"bearssl-small", small_name, small_start, small_expand_key, small_encrypt, small_decrypt, NULL, NULL},
+    {"bearssl-ct64", ct64_name, ct64_start, ct64_expand_key, ct64_encrypt, ct64_decrypt, NULL, NULL},
+    {"bearssl-x86ni", x86ni_name, x86ni_start, x86ni_expand_key, x86ni_encrypt, x86ni_decrypt, NULL, NULL},
     {0},
 };

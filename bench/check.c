@@ -123,7 +123,9 @@ int check_engines(const struct vectors *vectors)
         for (size_t first = 0; first < BLOCKS;)
             first += check_many(vectors, first, engine);
         check_appendix(vectors, engine);
+        check_wraps(vectors, engine);
     }
     compare_engines();
+    compare_wraps();
     return faults() == 0;
 }

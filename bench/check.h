@@ -9,4 +9,7 @@
 // all steps and where a call refuses. Prints a line for each call that is wrong; gives 1 where none is.
 int check_engines(const struct vectors *vectors);
 
+// Holds the calls of key wrap of an engine to RFC 3394, the masked ones at all offsets.
+void check_wraps(const struct vectors *vectors, size_t engine);
+
 #endif

@@ -9,16 +9,6 @@ enum { CASES = 2 };
 enum { EDGES = 8 };
 static const uint8_t edges[EDGES] = {0, 1, 2, 3, 4, 15, 16, 255};
 
-// Numbers for inputs, the same in every run.
-static void draw(uint8_t *bytes, size_t length)
-{
-    static uint64_t seed = 1;
-    for (size_t i = 0; i < length; i++) {
-        seed = seed * 6364136223846793005 + 1442695040888963407;
-        bytes[i] = (uint8_t)(seed >> 56);
-    }
-}
-
 // A call of both engines: lengths, offset, step and form are given, and everything that a call can write is compared, reply and
 // bytes.
 struct arguments {
@@ -161,7 +151,7 @@ void compare_engines(void)
 {
     compare_many_taken();
     compare_many_refused();
-    for (int call = 0; call < CALLS; call++) {
+    for (int call = 0; call < WRAP; call++) {
         compare_taken((enum call)call);
         compare_refused((enum call)call);
     }

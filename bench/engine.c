@@ -17,6 +17,10 @@ const char *const call_names[MEASURED] = {
     "decrypt_published",
     "decrypt_masked",
     "record_masked_decryption",
+    "wrap",
+    "unwrap",
+    "wrap_masked",
+    "unwrap_masked",
     "encrypt_published, step 5",
     "decrypt_published, step 5",
 };
@@ -34,6 +38,10 @@ const struct engine library = {
     slipgrease_decrypt_published,
     slipgrease_decrypt_masked,
     slipgrease_record_masked_decryption,
+    slipgrease_wrap,
+    slipgrease_unwrap,
+    slipgrease_wrap_masked,
+    slipgrease_unwrap_masked,
 };
 
 const struct engine translation = {
@@ -49,6 +57,10 @@ const struct engine translation = {
     translated_decrypt_published,
     translated_decrypt_masked,
     translated_record_masked_decryption,
+    translated_wrap,
+    translated_unwrap,
+    translated_wrap_masked,
+    translated_unwrap_masked,
 };
 
 const uint8_t published_masks[MASK_BYTES] = {

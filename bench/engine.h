@@ -8,6 +8,7 @@
 
 enum { KEY_BYTES = 32, SCHEDULE_BYTES = 240, BLOCK_BYTES = 16, MASK_BYTES = 16, MOST_BLOCKS = 256 };
 enum { RECORD_BYTES = 1136, DECRYPTION_RECORD_BYTES = 1360 };
+enum { LEAST_KEY_DATA = 16, MOST_KEY_DATA = 256, WRAP_EXTRA = 8 };
 
 // After the calls come two of them once more, with another step than 1, which makes them work out their boxes.
 enum call {
@@ -22,6 +23,10 @@ enum call {
     DECRYPT_PUBLISHED,
     DECRYPT_MASKED,
     RECORD_MASKED_DECRYPTION,
+    WRAP,
+    UNWRAP,
+    WRAP_MASKED,
+    UNWRAP_MASKED,
     CALLS,
     ENCRYPT_PUBLISHED_STEP_5 = CALLS,
     DECRYPT_PUBLISHED_STEP_5,
@@ -58,6 +63,14 @@ struct engine {
     uint8_t (*record_masked_decryption)(const uint8_t *schedule, size_t schedule_length, const uint8_t *input,
                                         size_t input_length, const uint8_t *masks, size_t masks_length, uint8_t offset,
                                         uint8_t step, uint8_t *states, size_t states_length);
+    uint8_t (*wrap)(const uint8_t *schedule, size_t schedule_length, const uint8_t *key_data, size_t key_data_length,
+                    uint8_t *wrapped, size_t wrapped_length);
+    uint8_t (*unwrap)(const uint8_t *schedule, size_t schedule_length, const uint8_t *wrapped, size_t wrapped_length,
+                      uint8_t *key_data, size_t key_data_length);
+    uint8_t (*wrap_masked)(const uint8_t *schedule, size_t schedule_length, const uint8_t *key_data, size_t key_data_length,
+                           uint8_t *wrapped, size_t wrapped_length, uint8_t offset);
+    uint8_t (*unwrap_masked)(const uint8_t *schedule, size_t schedule_length, const uint8_t *wrapped, size_t wrapped_length,
+                             uint8_t *key_data, size_t key_data_length, uint8_t offset);
 };
 
 extern const struct engine library, translation;

@@ -24,6 +24,15 @@ void expect(int right, size_t engine, enum call call, const char *of, size_t num
         printf("%s of %s is wrong at %s %zu\n", call_names[call], engines[engine]->name, of, number);
 }
 
+void draw(uint8_t *bytes, size_t length)
+{
+    static uint64_t seed = 1;
+    for (size_t i = 0; i < length; i++) {
+        seed = seed * 6364136223846793005 + 1442695040888963407;
+        bytes[i] = (uint8_t)(seed >> 56);
+    }
+}
+
 int faults(void)
 {
     return all_wrong;

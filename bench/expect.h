@@ -22,7 +22,12 @@ void expect(int right, size_t engine, enum call call, const char *of, size_t num
 // In how many places any call was wrong.
 int faults(void);
 
-// Holds the translation to the library on other inputs than the vectors, at all offsets, with all steps and where a call refuses.
+// Numbers for inputs, the same in every run.
+void draw(uint8_t *bytes, size_t length);
+
+// Holds the translation to the library on other inputs than the vectors, at all offsets, with all steps and where a call refuses:
+// the calls of blocks, and those of key wrap.
 void compare_engines(void);
+void compare_wraps(void);
 
 #endif

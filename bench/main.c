@@ -1,10 +1,11 @@
 // The benchmark's program. Its words:
 //   check VECTORS            holds everything that is measured to the vectors; fails where anything is wrong
-//   list                     prints who can be measured, a line each: ID and name, or - where this machine cannot run it
+//   list                     prints who can be measured, a line each: ID, name, or - where this machine cannot run it, and the
+//                            calls that it has, separated by |
 //   time VECTORS [ID..]      checks, and then times every call of those makers, or of all, in short batches that take turns; a line
 //                            for each call and maker: call, name, nanoseconds in the fastest batch, and by how many per cent the
 //                            middle one lay above it
-//   repeat ID TIMES..        makes each call of a maker, in their order, so many times, for whoever counts instructions
+//   repeat ID TIMES..        makes each call that a maker has, in their order, so many times, for whoever counts instructions
 // Fields of a line are separated by tabs.
 #define _POSIX_C_SOURCE 199309L
 #include <stdio.h>
@@ -98,8 +99,16 @@ static int list(void)
 {
     struct maker makers[MOST_MAKERS];
     size_t count = list_makers(makers);
-    for (size_t i = 0; i < count; i++)
-        printf("%s\t%s\n", makers[i].id, maker_name(&makers[i]) != NULL ? maker_name(&makers[i]) : "-");
+    for (size_t i = 0; i < count; i++) {
+        const char *before = "";
+        printf("%s\t%s\t", makers[i].id, maker_name(&makers[i]) != NULL ? maker_name(&makers[i]) : "-");
+        for (int call = 0; call < MEASURED; call++)
+            if (has_call(&makers[i], (enum call)call)) {
+                printf("%s%s", before, call_names[call]);
+                before = "|";
+            }
+        puts("");
+    }
     return 0;
 }
 
@@ -114,8 +123,10 @@ static int repeat_calls(const char *id, char **times, int call_count)
         return 2;
     }
     start(&makers[i]);
-    for (int call = 0; call < call_count && call < MEASURED && has_call(&makers[i], (enum call)call); call++)
-        repeat(&makers[i], (enum call)call, strtol(times[call], NULL, 10));
+    int had = 0;
+    for (int call = 0; call < MEASURED && had < call_count; call++)
+        if (has_call(&makers[i], (enum call)call))
+            repeat(&makers[i], (enum call)call, strtol(times[had++], NULL, 10));
     return 0;
 }
 

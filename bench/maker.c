@@ -37,13 +37,18 @@ const char *maker_name(const struct maker *maker)
 
 int has_call(const struct maker *maker, enum call call)
 {
-    return maker->engine != NULL || call <= DECRYPT;
+    if (maker->engine != NULL)
+        return 1;
+    return call <= DECRYPT ? maker->peer->encrypt != NULL : (call == WRAP || call == UNWRAP) && maker->peer->wrap != NULL;
 }
+
+enum { KEY_DATA = 32 };
 
 static struct {
     uint8_t key[KEY_BYTES], schedule[SCHEDULE_BYTES], plain[BLOCK_BYTES], cipher[BLOCK_BYTES], output[BLOCK_BYTES];
     uint8_t states[RECORD_BYTES], decryption_states[DECRYPTION_RECORD_BYTES];
     uint8_t blocks[BLOCK_BYTES * MOST_BLOCKS], outputs[BLOCK_BYTES * MOST_BLOCKS], offsets[MOST_BLOCKS];
+    uint8_t key_data[KEY_DATA], wrapped[KEY_DATA + WRAP_EXTRA], unwrapped[KEY_DATA], rewrapped[KEY_DATA + WRAP_EXTRA];
 } work;
 
 enum { OFFSET = 5, STEP = 1, OTHER_STEP = 5, FORM = 0 };
@@ -60,6 +65,9 @@ void start(const struct maker *maker)
     }
     library.expand_key(work.key, KEY_BYTES, work.schedule, SCHEDULE_BYTES);
     library.encrypt(work.schedule, SCHEDULE_BYTES, work.plain, BLOCK_BYTES, work.cipher, BLOCK_BYTES);
+    memcpy(work.key_data, work.plain, BLOCK_BYTES);
+    memcpy(work.key_data + BLOCK_BYTES, work.key, KEY_DATA - BLOCK_BYTES);
+    library.wrap(work.schedule, SCHEDULE_BYTES, work.key_data, KEY_DATA, work.wrapped, sizeof work.wrapped);
     translated_prepare();
     if (maker->peer != NULL)
         maker->peer->start(work.key);
@@ -123,6 +131,22 @@ static void repeat_engine(const struct engine *e, enum call call, long times)
             e->decrypt_masked(work.schedule, SCHEDULE_BYTES, work.cipher, BLOCK_BYTES, work.output, BLOCK_BYTES, published_masks,
                               MASK_BYTES, OFFSET, STEP);
         break;
+    case WRAP:
+        while (times-- > 0)
+            e->wrap(work.schedule, SCHEDULE_BYTES, work.key_data, KEY_DATA, work.rewrapped, sizeof work.rewrapped);
+        break;
+    case UNWRAP:
+        while (times-- > 0)
+            e->unwrap(work.schedule, SCHEDULE_BYTES, work.wrapped, sizeof work.wrapped, work.unwrapped, KEY_DATA);
+        break;
+    case WRAP_MASKED:
+        while (times-- > 0)
+            e->wrap_masked(work.schedule, SCHEDULE_BYTES, work.key_data, KEY_DATA, work.rewrapped, sizeof work.rewrapped, OFFSET);
+        break;
+    case UNWRAP_MASKED:
+        while (times-- > 0)
+            e->unwrap_masked(work.schedule, SCHEDULE_BYTES, work.wrapped, sizeof work.wrapped, work.unwrapped, KEY_DATA, OFFSET);
+        break;
     default:
         while (times-- > 0)
             e->record_masked_decryption(work.schedule, SCHEDULE_BYTES, work.cipher, BLOCK_BYTES, published_masks, MASK_BYTES,
@@ -141,9 +165,17 @@ static void repeat_peer(const struct peer *peer, enum call call, long times)
         while (times-- > 0)
             peer->encrypt(work.plain, work.output);
         break;
-    default:
+    case DECRYPT:
         while (times-- > 0)
             peer->decrypt(work.cipher, work.output);
+        break;
+    case WRAP:
+        while (times-- > 0)
+            peer->wrap(work.key_data, work.rewrapped);
+        break;
+    default:
+        while (times-- > 0)
+            peer->unwrap(work.wrapped, work.unwrapped);
     }
 }
 
@@ -156,7 +188,7 @@ void repeat(const struct maker *maker, enum call call, long times)
 }
 
 // It is started with another key, so that a key expansion that does nothing shows.
-static int right(const struct peer *peer, const struct vectors *vectors)
+static int right_blocks(const struct peer *peer, const struct vectors *vectors)
 {
     const uint8_t *plain = vectors->block[0].plain, *cipher = vectors->block[0].cipher;
     uint8_t there[BLOCK_BYTES] = {0}, back[BLOCK_BYTES] = {0};
@@ -168,15 +200,36 @@ static int right(const struct peer *peer, const struct vectors *vectors)
     return memcmp(there, cipher, BLOCK_BYTES) == 0 && memcmp(back, plain, BLOCK_BYTES) == 0;
 }
 
+static int right_wraps(const struct peer *peer, const struct vectors *vectors)
+{
+    const uint8_t *data = vectors->wrap[WRAPS - 1].data, *wrapped = vectors->wrap[WRAPS - 1].wrapped;
+    uint8_t there[KEY_DATA + WRAP_EXTRA] = {0}, back[KEY_DATA] = {0};
+    peer->start(vectors->block[0].key);
+    peer->wrap(data, there);
+    peer->unwrap(there, back);
+    return memcmp(there, wrapped, sizeof there) == 0 && memcmp(back, data, sizeof back) == 0;
+}
+
+// Where a peer is wrong, if it is.
+static const char *wrong_at(const struct peer *peer, const struct vectors *vectors)
+{
+    if (peer->encrypt != NULL && !right_blocks(peer, vectors))
+        return "FIPS 197 C.3";
+    return peer->wrap != NULL && !right_wraps(peer, vectors) ? "RFC 3394 4.6" : NULL;
+}
+
 int check_peers(const struct vectors *vectors)
 {
     struct maker makers[MOST_MAKERS];
     size_t count = list_makers(makers);
     int faults = 0;
-    for (size_t i = 0; i < count; i++)
-        if (makers[i].peer != NULL && maker_name(&makers[i]) != NULL && !right(makers[i].peer, vectors)) {
-            printf("%s is wrong at FIPS 197 C.3\n", maker_name(&makers[i]));
+    for (size_t i = 0; i < count; i++) {
+        const char *name = maker_name(&makers[i]);
+        const char *where = makers[i].peer != NULL && name != NULL ? wrong_at(makers[i].peer, vectors) : NULL;
+        if (where != NULL) {
+            printf("%s is wrong at %s\n", name, where);
             faults++;
         }
+    }
     return faults == 0;
 }

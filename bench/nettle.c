@@ -1,6 +1,7 @@
 // nettle as a peer. As Debian builds it, it takes AES-NI where the processor has it, else tables; NETTLE_FAT_OVERRIDE in the
 // environment names the features that it may use.
 #include <nettle/aes.h>
+#include <nettle/nist-keywrap.h>
 #include <nettle/version.h>
 
 #include <stdio.h>
@@ -41,4 +42,16 @@ static void decrypt(const uint8_t input[16], uint8_t output[16])
     aes256_decrypt(&decrypting, 16, output, input);
 }
 
-const struct peer nettle_peers[] = {{"nettle", name, start, expand_key, encrypt, decrypt}, {0}};
+static const uint8_t initial[8] = {0xa6, 0xa6, 0xa6, 0xa6, 0xa6, 0xa6, 0xa6, 0xa6};
+
+static void wrap(const uint8_t key_data[32], uint8_t wrapped[40])
+{
+    aes256_keywrap(&encrypting, initial, 40, wrapped, key_data);
+}
+
+static void unwrap(const uint8_t wrapped[40], uint8_t key_data[32])
+{
+    aes256_keyunwrap(&decrypting, initial, 32, key_data, wrapped);
+}
+
+const struct peer nettle_peers[] = {{"nettle", name, start, expand_key, encrypt, decrypt, wrap, unwrap}, {0}};

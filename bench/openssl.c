@@ -1,6 +1,6 @@
 // OpenSSL as a peer: by EVP, one block in ECB without padding, and by AES_encrypt and its like, which are deprecated and take no
 // AES-NI. EVP takes AES-NI where the processor has it, else vpaes where it has SSSE3, else AES_encrypt, which looks up S alone;
-// OPENSSL_ia32cap in the environment can hide either from it.
+// OPENSSL_ia32cap in the environment can hide either from it. EVP's key wrap takes AES_encrypt always, so it is a peer by itself.
 #define OPENSSL_SUPPRESS_DEPRECATED
 #include <openssl/aes.h>
 #include <openssl/crypto.h>
@@ -12,7 +12,7 @@
 
 #include "peer.h"
 
-static EVP_CIPHER_CTX *forwards, *backwards;
+static EVP_CIPHER_CTX *forwards, *backwards, *wrapping, *unwrapping;
 static AES_KEY encrypting, decrypting;
 
 static void stop_unless(int done)
@@ -35,18 +35,24 @@ static const char *evp_name(void)
     return name;
 }
 
-static void evp_start(const uint8_t key[32])
+// Contexts for both directions of a cipher, under a key.
+static void evp_contexts(const char *cipher_name, const uint8_t key[32], EVP_CIPHER_CTX **there, EVP_CIPHER_CTX **back)
 {
     // Without the machine's own configuration, and without what only makes start and end longer.
     const uint64_t without = OPENSSL_INIT_NO_LOAD_CONFIG | OPENSSL_INIT_NO_LOAD_CRYPTO_STRINGS | OPENSSL_INIT_NO_ADD_ALL_CIPHERS |
                              OPENSSL_INIT_NO_ADD_ALL_DIGESTS | OPENSSL_INIT_NO_ATEXIT;
     stop_unless(OPENSSL_init_crypto(without, NULL));
-    EVP_CIPHER *cipher = EVP_CIPHER_fetch(NULL, "AES-256-ECB", NULL);
+    EVP_CIPHER *cipher = EVP_CIPHER_fetch(NULL, cipher_name, NULL);
     stop_unless(cipher != NULL);
-    forwards = EVP_CIPHER_CTX_new();
-    backwards = EVP_CIPHER_CTX_new();
-    stop_unless(EVP_EncryptInit_ex2(forwards, cipher, key, NULL, NULL) && EVP_CIPHER_CTX_set_padding(forwards, 0));
-    stop_unless(EVP_DecryptInit_ex2(backwards, cipher, key, NULL, NULL) && EVP_CIPHER_CTX_set_padding(backwards, 0));
+    *there = EVP_CIPHER_CTX_new();
+    *back = EVP_CIPHER_CTX_new();
+    stop_unless(EVP_EncryptInit_ex2(*there, cipher, key, NULL, NULL) && EVP_DecryptInit_ex2(*back, cipher, key, NULL, NULL));
+}
+
+static void evp_start(const uint8_t key[32])
+{
+    evp_contexts("AES-256-ECB", key, &forwards, &backwards);
+    stop_unless(EVP_CIPHER_CTX_set_padding(forwards, 0) && EVP_CIPHER_CTX_set_padding(backwards, 0));
 }
 
 static void evp_expand_key(const uint8_t key[32])
@@ -64,6 +70,30 @@ static void evp_decrypt(const uint8_t input[16], uint8_t output[16])
 {
     int length;
     stop_unless(EVP_DecryptUpdate(backwards, output, &length, input, 16));
+}
+
+static const char *evp_wrap_name(void)
+{
+    static char name[80];
+    snprintf(name, sizeof name, "OpenSSL %s EVP, S alone", OpenSSL_version(OPENSSL_VERSION_STRING));
+    return name;
+}
+
+static void evp_wrap_start(const uint8_t key[32])
+{
+    evp_contexts("AES-256-WRAP", key, &wrapping, &unwrapping);
+}
+
+static void evp_wrap(const uint8_t key_data[32], uint8_t wrapped[40])
+{
+    int length;
+    stop_unless(EVP_EncryptUpdate(wrapping, wrapped, &length, key_data, 32));
+}
+
+static void evp_unwrap(const uint8_t wrapped[40], uint8_t key_data[32])
+{
+    int length;
+    stop_unless(EVP_DecryptUpdate(unwrapping, key_data, &length, wrapped, 40));
 }
 
 static const char *aes_name(void)
@@ -94,8 +124,19 @@ static void aes_decrypt(const uint8_t input[16], uint8_t output[16])
     AES_decrypt(input, output, &decrypting);
 }
 
+static void aes_wrap(const uint8_t key_data[32], uint8_t wrapped[40])
+{
+    stop_unless(AES_wrap_key(&encrypting, NULL, wrapped, key_data, 32) == 40);
+}
+
+static void aes_unwrap(const uint8_t wrapped[40], uint8_t key_data[32])
+{
+    stop_unless(AES_unwrap_key(&decrypting, NULL, key_data, wrapped, 40) == 32);
+}
+
 const struct peer openssl_peers[] = {
-    {"openssl-evp", evp_name, evp_start, evp_expand_key, evp_encrypt, evp_decrypt},
-    {"openssl-aes", aes_name, aes_start, aes_expand_key, aes_encrypt, aes_decrypt},
+    {"openssl-evp", evp_name, evp_start, evp_expand_key, evp_encrypt, evp_decrypt, NULL, NULL},
+    {"openssl-evp-wrap", evp_wrap_name, evp_wrap_start, NULL, NULL, NULL, evp_wrap, evp_unwrap},
+    {"openssl-aes", aes_name, aes_start, aes_expand_key, aes_encrypt, aes_decrypt, aes_wrap, aes_unwrap},
     {0},
 };

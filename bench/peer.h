@@ -1,4 +1,4 @@
-// Other libraries that are timed beside ours where they are installed: AES-256, a key or a block at a time.
+// Other libraries that are timed beside ours where they are installed: AES-256, a key or a block at a time, and key wrap.
 #ifndef PEER_H
 #define PEER_H
 
@@ -11,10 +11,14 @@ struct peer {
     const char *(*name)(void);
     // Expands the key for both directions.
     void (*start)(const uint8_t key[32]);
+    // Of these three and of the two below either all are there or none, which is NULL.
     // Expands the key for encryption alone: this is what is timed as expand_key.
     void (*expand_key)(const uint8_t key[32]);
     void (*encrypt)(const uint8_t input[16], uint8_t output[16]);
     void (*decrypt)(const uint8_t input[16], uint8_t output[16]);
+    // Key wrap of 32 bytes, and back.
+    void (*wrap)(const uint8_t key_data[32], uint8_t wrapped[40]);
+    void (*unwrap)(const uint8_t wrapped[40], uint8_t key_data[32]);
 };
 
 // Lists, each ended by a peer without an id.

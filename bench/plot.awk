@@ -1,7 +1,6 @@
 # Draws the benchmark's counts as SVG: awk -v many=CALL -v foot=TEXT -f plot.awk COUNTS, where a line is call, name and
 # instructions, and `many` is the call under whose name one block of many stands. On the left each call is measured by its C
-# translation, on a scale that begins at 0; on the right key expansion and a block each way stand beside other libraries, on a
-# logarithmic scale.
+# translation, on a scale that begins at 0; on the right what other libraries do as well stands beside them, on a logarithmic scale.
 function grouped(number,   text) {
     text = number
     while (text ~ /[0-9][0-9][0-9][0-9](,|$)/) sub(/[0-9][0-9][0-9](,|$)/, ",&", text)
@@ -26,13 +25,14 @@ function kind(name) {
 }
 
 # Two bars of the left side: what is the measure, and what is measured by it; with a bound, where it should end at the latest.
-function pair(label, y, measured, by, by_label, class, bound,   ratio, verdict, x) {
+function pair(label, y, measured, by, by_label, class, bound,   ratio, inside, verdict, x) {
     ratio = measured / by
     text(left, y, "group", "start", label)
     bar(left, y + 9, unit, 15, class)
     text(left + 7, y + 20.5, "inside", "start", by_label " " grouped(by))
     bar(left, y + 27, unit * ratio, 15, "ours")
-    text(left + 7, y + 38.5, "inside", "start", "ours " grouped(measured))
+    inside = unit * ratio > 75
+    text(left + 7 + (inside ? 0 : unit * ratio), y + 38.5, inside ? "inside" : "axis", "start", "ours " grouped(measured))
     x = left + unit * (ratio > 1 ? ratio : 1) + 14
     text(x, y + 39, "value strong", "start", sprintf("%.2f", ratio))
     if (bound == "") return
@@ -78,7 +78,11 @@ BEGIN {
 END {
     width = 1300; left = 44; unit = 250; right = 664; scale = 910; decade = 70; top = 182; row = 18; gap = 38
     end = top
-    for (i = 1; i <= 3; i++) end += row * makers[call[i]] + gap
+    for (i = 1; i <= calls; i++)
+        if (makers[call[i]] > 2 || i <= 3) {
+            shared[++groups] = call[i]
+            end += row * makers[call[i]] + gap
+        }
     end -= gap - 12
     pairs = calls + 2
     if (end < top + pairs * 72 - 20) end = top + pairs * 72 - 20
@@ -99,9 +103,9 @@ END {
     print "line.met { stroke: #1a7f37 } line.missed { stroke: #cf222e }"
     print "</style>"
     bar(0, 0, width, height, "paper")
-    text(left, 44, "title", "start", "Slipgrease: instructions for one key or one block")
+    text(left, 44, "title", "start", "Slipgrease: instructions for one key, one block or one step of a key wrap")
     text(left, 69, "under", "start",
-        "AES-256, one key or one block a call, and 256 in encrypt_blocks; tables and checks included; shorter is better")
+        "AES-256, one key or block a call, 256 in encrypt_blocks, 24 steps in key wrap; tables and checks included; shorter is better")
     for (i = 1; i <= makers["encrypt"]; i++) {
         n = count["encrypt", maker["encrypt", i]]
         if (kind(maker["encrypt", i]) == "aesni" && (least == "" || n < least)) least = n
@@ -136,7 +140,7 @@ END {
     }
     text(scale + 2 * decade, end + 35, "axis", "middle", "instructions, on a logarithmic scale")
     y = top
-    for (i = 1; i <= 3; i++) y = group(call[i], y)
+    for (i = 1; i <= groups; i++) y = group(shared[i], y)
     text(left, height - 22, "axis", "start", foot)
     print "</svg>"
 }

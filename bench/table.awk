@@ -1,7 +1,7 @@
-# Prints the benchmark's table of what was timed and counted: awk -v many=CALL -f table.awk kind=times FILE kind=off FILE
-# kind=counts FILE. Lines of times are call, name, nanoseconds and spread in per cent; `off` are those where AES-NI was hidden,
-# with the library timed again beside them; counts are call, name and instructions. `many` is the call under whose name one
-# block of many stands.
+# Prints the benchmark's table of what was timed and counted: awk -v many=CALL -v stepwise=TEXT -f table.awk kind=times FILE
+# kind=off FILE kind=counts FILE. Lines of times are call, name, nanoseconds and spread in per cent; `off` are those where AES-NI
+# was hidden, with the library timed again beside them; counts are call, name and instructions. `many` is the call under whose name
+# one block of many stands, and `stepwise` what is behind the name of a call of which one step stands there.
 function grouped(number,   text) {
     if (number == "") return "-"
     text = number
@@ -15,7 +15,8 @@ function percent(number) { return number == "" ? "-" : sprintf("%.0f %%", number
 function target(text, bound, instructions, others,   verdict) {
     verdict = instructions <= bound * others ? "met" : "missed"
     if (instructions == "" || others == "") verdict = "not counted"
-    printf "%-56s at most %.1f  %6s  %s\n", text, bound, ratio(instructions, others), verdict
+    printf "%-60s at most %5s  %6s  %s\n", text, others == 1 ? grouped(bound) : bound,
+        others == 1 ? grouped(instructions) : ratio(instructions, others), verdict
 }
 BEGIN { FS = "\t"; ours = "the library"; c = "the C translation" }
 
@@ -27,7 +28,7 @@ kind == "times" || kind == "off" {
     own[$1, $2] = kind == "off" ? again[$1] : time[$1, ours]
 }
 !($1 in seen) { seen[$1] = 1; call[++calls] = $1 }
-!(($1, $2) in listed) && $2 != ours && $2 != c { listed[$1, $2] = any_peer = 1; peer[$1, ++peers[$1]] = $2 }
+!(($1, $2) in listed) && $2 != ours && $2 != c { listed[$1, $2] = 1; peer[$1, ++peers[$1]] = $2; left++ }
 
 END {
     print "Beside the same steps in C"
@@ -43,23 +44,29 @@ END {
     print ""
     print "Targets, by instructions"
     print ""
-    target("encrypt beside its translation", 1.0, count["encrypt", ours], count["encrypt", c])
-    target("encrypt_published beside its translation", 1.0, count["encrypt_published", ours], count["encrypt_published", c])
-    target("encrypt_masked beside its translation", 0.7, count["encrypt_masked", ours], count["encrypt_masked", c])
-    target("encrypt_published beside encrypt", 1.5, count["encrypt_published", ours], count["encrypt", ours])
-    target(many ", beside encrypt_published", 0.9, count[many, ours], count["encrypt_published", ours])
-    if (!any_peer) exit
+    published = "encrypt_published"; back = "decrypt_published"
+    target("encrypt beside its translation", "1.0", count["encrypt", ours], count["encrypt", c])
+    target(published " beside its translation", "1.0", count[published, ours], count[published, c])
+    target("encrypt_masked beside its translation", "0.7", count["encrypt_masked", ours], count["encrypt_masked", c])
+    target(published " beside encrypt", "1.5", count[published, ours], count["encrypt", ours])
+    target(many ", beside " published, "0.9", count[many, ours], count[published, ours])
+    target("wrap" stepwise ", instructions", 2300, count["wrap" stepwise, ours], 1)
+    target("unwrap" stepwise ", instructions", 3150, count["unwrap" stepwise, ours], 1)
+    target("wrap_masked" stepwise ", beside " published, "1.05", count["wrap_masked" stepwise, ours], count[published, ours])
+    target("unwrap_masked" stepwise ", beside " back, "1.05", count["unwrap_masked" stepwise, ours], count[back, ours])
+    if (!left) exit
     print ""
     print "Beside other libraries"
     print ""
-    printf "%-11s %-36s %8s %8s %7s %9s %8s\n", "call", "by", "ns", "ours/it", "spread", "instr.", "ours/it"
+    printf "%-20s %-31s %8s %8s %7s %9s %8s\n", "call", "by", "ns", "ours/it", "spread", "instr.", "ours/it"
     for (i = 1; i <= calls; i++) {
         n = call[i]
         for (k = 1; k <= peers[n]; k++) {
             p = peer[n, k]
-            printf "%-11s %-36s %8s %8s %7s %9s %8s\n", n, p, nanoseconds(time[n, p]), ratio(own[n, p], time[n, p]),
+            printf "%-20s %-31s %8s %8s %7s %9s %8s\n", n, p, nanoseconds(time[n, p]), ratio(own[n, p], time[n, p]),
                 percent(spread[n, p]), grouped(count[n, p]), ratio(count[n, ours], count[n, p])
         }
-        if (peers[n] && peers[call[i + 1]]) print ""
+        left -= peers[n]
+        if (peers[n] && left) print ""
     }
 }

@@ -18,6 +18,9 @@ enum reply {
     RECORD_LENGTH = 8,
     OFFSETS_LENGTH = 14,
     STEP_WRONG = 15,
+    KEY_DATA_LENGTH = 16,
+    WRAPPED_LENGTH = 17,
+    INTEGRITY = 18,
 };
 
 uint8_t translated_expand_key(const uint8_t *key, size_t key_length, uint8_t *schedule, size_t schedule_length);
@@ -60,5 +63,17 @@ uint8_t translated_decrypt_masked(const uint8_t *schedule, size_t schedule_lengt
 uint8_t translated_record_masked_decryption(const uint8_t *schedule, size_t schedule_length, const uint8_t *input,
                                             size_t input_length, const uint8_t *masks, size_t masks_length, uint8_t offset,
                                             uint8_t step, uint8_t *states, size_t states_length);
+
+uint8_t translated_wrap(const uint8_t *schedule, size_t schedule_length, const uint8_t *key_data, size_t key_data_length,
+                        uint8_t *wrapped, size_t wrapped_length);
+
+uint8_t translated_unwrap(const uint8_t *schedule, size_t schedule_length, const uint8_t *wrapped, size_t wrapped_length,
+                          uint8_t *key_data, size_t key_data_length);
+
+uint8_t translated_wrap_masked(const uint8_t *schedule, size_t schedule_length, const uint8_t *key_data, size_t key_data_length,
+                               uint8_t *wrapped, size_t wrapped_length, uint8_t offset);
+
+uint8_t translated_unwrap_masked(const uint8_t *schedule, size_t schedule_length, const uint8_t *wrapped, size_t wrapped_length,
+                                 uint8_t *key_data, size_t key_data_length, uint8_t offset);
 
 #endif

@@ -42,6 +42,22 @@ static int read_round(char *line, struct vectors *vectors, size_t *points)
     return 1;
 }
 
+static void read_wraps(struct vectors *vectors)
+{
+    static const char *const wraps[WRAPS][2] = {
+        {"00112233445566778899aabbccddeeff", "64e8c3f9ce0f5ba263e9777905818a2a93c8191e7d6e8ae7"},
+        {"00112233445566778899aabbccddeeff0001020304050607",
+         "a8f9bc1612c68b3ff6e6f4fbe30e71e4769c8b80a32cb8958cd5d17d6b254da1"},
+        {"00112233445566778899aabbccddeeff000102030405060708090a0b0c0d0e0f",
+         "28c9f404c4b810f4cbccb35cfb87f8263f5786e2d80ed326cbc7f0e71a99f43bfb988b9b7a02dd21"},
+    };
+    for (size_t i = 0; i < WRAPS; i++) {
+        size_t length = vectors->wrap[i].length = strlen(wraps[i][0]) / 2;
+        read_hex(wraps[i][0], vectors->wrap[i].data, length);
+        read_hex(wraps[i][1], vectors->wrap[i].wrapped, length + WRAP_EXTRA);
+    }
+}
+
 int read_vectors(const char *path, struct vectors *vectors)
 {
     char line[LINE], section[LINE] = "";
@@ -51,6 +67,7 @@ int read_vectors(const char *path, struct vectors *vectors)
         perror(path);
         return 0;
     }
+    read_wraps(vectors);
     while (fgets(line, LINE, file) != NULL) {
         int read = 1;
         number++;

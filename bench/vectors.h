@@ -4,7 +4,7 @@
 
 #include "engine.h"
 
-enum { BLOCKS = 520 };
+enum { BLOCKS = 520, WRAPS = 3, LONGEST_WRAP = 40 };
 
 struct vectors {
     // NIST's, the first of them FIPS 197 C.3.
@@ -15,10 +15,15 @@ struct vectors {
     uint8_t key[KEY_BYTES], schedule[SCHEDULE_BYTES];
     // The states of C.3, in the order of the recorded points.
     uint8_t states[RECORD_BYTES];
+    // RFC 3394 4.3, 4.5 and 4.6: key data that is wrapped under C.3's key.
+    struct {
+        uint8_t data[LONGEST_WRAP], wrapped[LONGEST_WRAP];
+        size_t length;
+    } wrap[WRAPS];
 };
 
-// Reads the sections `ecb`, `key expansion` and `rounds` of a file like crates/vectors/stdin. Gives 0, and says on standard error
-// what is wrong, where a line cannot be read or one is missing.
+// Reads the sections `ecb`, `key expansion` and `rounds` of a file like crates/vectors/stdin; the wraps are known without it. Gives
+// 0, and says on standard error what is wrong, where a line cannot be read or one is missing.
 int read_vectors(const char *path, struct vectors *vectors);
 
 #endif

@@ -1,6 +1,6 @@
 /*
- * Slipgrease: AES-256 by a plain engine, for the rack, and by a masked engine, for the module. Both are in one archive,
- * libslipgrease.a, of code that is proved to do what is said here. This header is the manual of its C names.
+ * Slipgrease: AES-256 by a plain engine, for the rack, and by a masked engine, for the module, and key wrap over either. All is in
+ * one archive, libslipgrease.a, of code that is proved to do what is said here. This header is the manual of its C names.
  *
  *     cc pipe.c $(pkg-config --cflags --libs slipgrease)
  *
@@ -12,14 +12,14 @@
  * What the caller guarantees
  *   A buffer is two arguments: a pointer, and its length in bytes. So many bytes are there and may be read; where the pointer's
  *   name ends in _out, they may be written. What an _out buffer holds before the call does not matter.
- *   A buffer that is written shares no byte with another buffer of the same call, so nothing is encrypted in place. The same
- *   buffer may be lent twice for reading.
+ *   A buffer that is written shares no byte with another buffer of the same call, so nothing is encrypted or wrapped in place.
+ *   The same buffer may be lent twice for reading.
  *   Until the call returns, no other thread writes a buffer that it was lent, or reads its _out buffer. No call keeps
  *   anything for the next one, so threads may call at the same time.
  *   Nothing else is asked. Every length, alignment, content and number is allowed, and has its answer.
  *
  * Wrong lengths and null pointers
- *   A length that is not the one named below is refused, and not a byte of that buffer is touched, except that the mark and the
+ *   A length that is none of those named below is refused, and not a byte of that buffer is touched, except that the mark and the
  *   version of a sheet are read before its length is judged, where it has these 5 bytes. Length 0 is taken by
  *   slipgrease_encrypt_blocks alone, for no blocks at all, and else refused like any other wrong length; with a null pointer as
  *   with another. (That a null pointer does no harm is tested on the compiled code; the proofs speak of buffers that are there.)
@@ -30,8 +30,9 @@
  *   functions say the same is not proved, but compared by a program (tools/header of the sources).
  *
  * What is not claimed
- *   Nothing about power, time, caches or any other side of a running machine. Nothing is wiped: a call leaves its working
- *   values on the stack. No mode of operation is here and no other key length, and no offset is drawn: that is the caller's.
+ *   Nothing about power, time, caches or any other side of a running machine. Nothing is wiped: a call leaves its working values
+ *   on the stack, and so does an unwrapping that is refused. Key wrap is the one mode of operation here. There is no other key
+ *   length, and no offset is drawn: that is the caller's.
  */
 #ifndef SLIPGREASE_H
 #define SLIPGREASE_H
@@ -65,6 +66,9 @@ extern "C" {
 #define SLIPGREASE_REPLY_VERSION_UNKNOWN 13 /* the sheet's version is neither 1 nor 2 */
 #define SLIPGREASE_REPLY_OFFSETS_LENGTH 14  /* there is not one offset for each block */
 #define SLIPGREASE_REPLY_STEP_WRONG 15      /* the step is 0, 2, 3 or above 15; or 1, in a sheet of version 2 */
+#define SLIPGREASE_REPLY_KEY_DATA_LENGTH 16 /* the key data, or the buffer for it, is not 16 to 256 bytes in a multiple of 8 */
+#define SLIPGREASE_REPLY_WRAPPED_LENGTH 17  /* the wrapped key data, or the buffer for it, is not 8 bytes longer than that */
+#define SLIPGREASE_REPLY_INTEGRITY 18       /* the register that unwrapping recovers is not a6a6a6a6a6a6a6a6 */
 
 /* The lengths that the calls take. */
 #define SLIPGREASE_KEY_BYTES 32
@@ -78,6 +82,12 @@ extern "C" {
 
 /* So many blocks are taken in one call. */
 #define SLIPGREASE_BLOCKS_MAX 256
+
+/* Key data has so many bytes, from the least to the most, in multiples of the unit; wrapped, it has so many more. */
+#define SLIPGREASE_KEY_DATA_MIN 16
+#define SLIPGREASE_KEY_DATA_MAX 256
+#define SLIPGREASE_KEY_DATA_UNIT 8
+#define SLIPGREASE_WRAP_EXTRA 8
 
 /* A record is so many states of a block's size, and that of a decryption so many. */
 #define SLIPGREASE_STATES 71
@@ -284,6 +294,60 @@ uint8_t slipgrease_write_sheet(
     uint8_t step,
     uint8_t *sheet_out, size_t sheet_len);
 
+/* ---- Key wrap ---- */
+
+/*
+ * Key wrap of RFC 3394 with AES-256 seals key data, which is mostly a key itself, with the schedule of a wrapping key. What comes
+ * out is 8 bytes longer. These are the RFC's register, which begins as the initial value, a6 eight times (2.2.3.1); unwrapping must
+ * recover that value, and so finds out that something was changed. Key data has 16 to 256 bytes, a multiple of 8.
+ * The two masked calls encrypt and decrypt by the module's engine: with the published masks, step 1 and one offset for the whole
+ * call. At every offset they write the same bytes as the other two, so either engine unwraps what the other has wrapped.
+ */
+
+/*
+ * Wraps key data: 2.2.1 of the RFC.
+ * Reads schedule, 240 bytes, and key_data, 16, 24 .. 256 bytes. Writes wrapped_out, 8 bytes more than key_data.
+ * Refusals: 2 SCHEDULE_LENGTH, 16 KEY_DATA_LENGTH, 17 WRAPPED_LENGTH.
+ */
+uint8_t slipgrease_wrap(
+    const uint8_t *schedule, size_t schedule_len,
+    const uint8_t *key_data, size_t key_data_len,
+    uint8_t *wrapped_out, size_t wrapped_len);
+
+/*
+ * Unwraps key data: 2.2.2 of the RFC. What slipgrease_wrap wrapped with the same schedule gives its key data back. Where the
+ * lengths are right, INTEGRITY is the reply exactly if the register that is recovered is not the initial value: the wrapped key
+ * data was changed, or wrapped under another key. Then no byte of key_data_out has changed.
+ * Reads schedule, 240 bytes, and wrapped, 8 bytes more than key_data. Writes key_data_out, 16, 24 .. 256 bytes.
+ * Refusals: 2 SCHEDULE_LENGTH, 16 KEY_DATA_LENGTH, 17 WRAPPED_LENGTH, 18 INTEGRITY.
+ */
+uint8_t slipgrease_unwrap(
+    const uint8_t *schedule, size_t schedule_len,
+    const uint8_t *wrapped, size_t wrapped_len,
+    uint8_t *key_data_out, size_t key_data_len);
+
+/*
+ * Wraps key data by the module's engine, and writes what slipgrease_wrap does.
+ * Reads schedule, 240 bytes, and key_data, 16, 24 .. 256 bytes. Writes wrapped_out, 8 bytes more than key_data.
+ * Refusals: 2 SCHEDULE_LENGTH, 6 OFFSET_RANGE, 16 KEY_DATA_LENGTH, 17 WRAPPED_LENGTH.
+ */
+uint8_t slipgrease_wrap_masked(
+    const uint8_t *schedule, size_t schedule_len,
+    const uint8_t *key_data, size_t key_data_len,
+    uint8_t *wrapped_out, size_t wrapped_len,
+    uint8_t offset);
+
+/*
+ * Unwraps key data by the module's engine, and writes and refuses what slipgrease_unwrap does.
+ * Reads schedule, 240 bytes, and wrapped, 8 bytes more than key_data. Writes key_data_out, 16, 24 .. 256 bytes.
+ * Refusals: 2 SCHEDULE_LENGTH, 6 OFFSET_RANGE, 16 KEY_DATA_LENGTH, 17 WRAPPED_LENGTH, 18 INTEGRITY.
+ */
+uint8_t slipgrease_unwrap_masked(
+    const uint8_t *schedule, size_t schedule_len,
+    const uint8_t *wrapped, size_t wrapped_len,
+    uint8_t *key_data_out, size_t key_data_len,
+    uint8_t offset);
+
 /* ---- Beside the engines ---- */
 
 /*
@@ -337,8 +401,8 @@ uint16_t slipgrease_power(uint8_t n);
 uint8_t slipgrease_masked_inverse(uint8_t x, uint8_t r);
 
 /*
- * Sorts a reply: SLIPGREASE_GO_ON for 0, SLIPGREASE_CALLER_FAULT for 1 to 8, SLIPGREASE_DATA_FAULT for 9 to 13, and
- * SLIPGREASE_CALLER_FAULT for every number above.
+ * Sorts a reply: SLIPGREASE_GO_ON for 0, SLIPGREASE_CALLER_FAULT for 1 to 8, SLIPGREASE_DATA_FAULT for 9 to 13 and for 18, and
+ * SLIPGREASE_CALLER_FAULT for every other number above 13.
  * Refusals: none.
  */
 uint8_t slipgrease_sort_reply(uint8_t number);

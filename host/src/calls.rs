@@ -64,6 +64,10 @@ calls! {
     slipgrease_write_sheet as write_sheet(masks: &[u8], step: u8, sheet: &mut [u8]) -> u8;
     slipgrease_fitness as fitness(masks: &[u8]) -> u16;
     slipgrease_convert as convert(input: &[u8], output: &mut [u8], offset: u8) -> u8;
+    slipgrease_wrap as wrap(schedule: &[u8], key_data: &[u8], wrapped: &mut [u8]) -> u8;
+    slipgrease_unwrap as unwrap(schedule: &[u8], wrapped: &[u8], key_data: &mut [u8]) -> u8;
+    slipgrease_wrap_masked as wrap_masked(schedule: &[u8], key_data: &[u8], wrapped: &mut [u8], offset: u8) -> u8;
+    slipgrease_unwrap_masked as unwrap_masked(schedule: &[u8], wrapped: &[u8], key_data: &mut [u8], offset: u8) -> u8;
     slipgrease_multiply as multiply(a: u8, b: u8) -> u8;
     slipgrease_inverse as inverse(x: u8) -> u8;
     slipgrease_logarithm as logarithm(x: u8) -> u16;

@@ -1,11 +1,12 @@
-//! AES-256 block by block, plain and masked, by a library in which every call is proved to meet its promise.
+//! AES-256 block by block, plain and masked, and key wrap over it, by a library in which every call is proved to meet its promise.
 //!
 //! The library is `libslipgrease.a`, written in Rattle; this crate is its face for Rust. Whatever a call is lent, it ends, and
-//! gives the one answer that its promise names: wrong lengths, offsets, steps and forms are refused, each with its own
-//! [`Refusal`], in a fixed order, and a refused call has written nothing.
+//! gives the one answer that its promise names: wrong lengths, offsets, steps and forms are refused, and so is a damaged wrapped
+//! key, each with its own [`Refusal`], in a fixed order, and a refused call has written nothing.
 //!
 //! There are two ways to call it. The functions of this page take slices of any length and hand them on as they are. The types
-//! [`Schedule`], [`Masks`], [`Offset`] and [`Step`] hold only what the library takes, so that their calls cannot be refused:
+//! [`Schedule`], [`Masks`], [`Offset`] and [`Step`] hold only what the library takes, so that their calls cannot be refused, except
+//! for those that wrap keys, whose lengths vary:
 //!
 //! ```
 //! use slipgrease::{Offset, Schedule, Step};
@@ -39,6 +40,7 @@ mod record;
 mod refusal;
 mod schedule;
 mod slices;
+mod wrap;
 
 pub use crate::masks::{Masks, Offset, Step};
 pub use crate::record::{Direction, Point, Record, Stage};
@@ -47,5 +49,5 @@ pub use crate::schedule::{Block, Schedule};
 pub use crate::slices::{
     convert, decrypt, decrypt_masked, decrypt_published, encrypt, encrypt_blocks, encrypt_masked, encrypt_published, expand_key,
     fitness, inverse, logarithm, masked_inverse, multiply, power, read_sheet, record_masked, record_masked_decryption,
-    record_plain, write_sheet,
+    record_plain, unwrap, unwrap_masked, wrap, wrap_masked, write_sheet,
 };

@@ -47,10 +47,16 @@ pub enum Refusal {
     OffsetsLength = 14,
     /// The step is 0, 2, 3 or above 15, or 1 in a sheet of version 2.
     StepWrong = 15,
+    /// The key data is not 16 to 256 bytes long in a multiple of 8; in unwrapping, the buffer for it.
+    KeyDataLength = 16,
+    /// The wrapped key, or the buffer for it, is not 8 bytes longer than the key data.
+    WrappedLength = 17,
+    /// The register that unwrapping recovers is not a6 eight times: the wrapped key is damaged, or was wrapped under another key.
+    Integrity = 18,
 }
 
 /// The name and the meaning of each, in the order of their numbers.
-const REFUSALS: [(Refusal, &str, &str); 15] = [
+const REFUSALS: [(Refusal, &str, &str); 18] = [
     (Refusal::KeyLength, "KEY_LENGTH", "the key is not 32 bytes long"),
     (Refusal::ScheduleLength, "SCHEDULE_LENGTH", "the schedule is not 240 bytes long"),
     (Refusal::InputLength, "INPUT_LENGTH", "the input is not 16 bytes long; of many blocks, not 16 for each of 256 at most"),
@@ -66,6 +72,9 @@ const REFUSALS: [(Refusal, &str, &str); 15] = [
     (Refusal::VersionUnknown, "VERSION_UNKNOWN", "the sheet's version is neither 1 nor 2"),
     (Refusal::OffsetsLength, "OFFSETS_LENGTH", "there is not one offset for each block"),
     (Refusal::StepWrong, "STEP_WRONG", "the step is 0, 2, 3 or above 15, or 1 in a sheet of version 2"),
+    (Refusal::KeyDataLength, "KEY_DATA_LENGTH", "the key data is not 16 to 256 bytes long in a multiple of 8"),
+    (Refusal::WrappedLength, "WRAPPED_LENGTH", "the wrapped key is not 8 bytes longer than the key data"),
+    (Refusal::Integrity, "INTEGRITY", "the register that unwrapping recovers is not a6a6a6a6a6a6a6a6"),
 ];
 
 impl Refusal {
@@ -80,7 +89,7 @@ impl Refusal {
         REFUSALS.iter().map(|row| row.0).find(|refusal| refusal.number() == number)
     }
 
-    /// The reply number, 1 to 15.
+    /// The reply number, 1 to 18.
     pub fn number(self) -> u8 {
         self as u8
     }
@@ -138,7 +147,8 @@ pub enum Fault {
 /// assert_eq!(sort_reply(0), None);
 /// assert_eq!(sort_reply(8), Some(Fault::Caller));
 /// assert_eq!(sort_reply(9), Some(Fault::Data));
-/// assert_eq!(sort_reply(15), Some(Fault::Caller));
+/// assert_eq!(sort_reply(17), Some(Fault::Caller));
+/// assert_eq!(sort_reply(18), Some(Fault::Data));
 /// ```
 pub fn sort_reply(number: u8) -> Option<Fault> {
     match calls::sort_reply(number) {

@@ -3,8 +3,10 @@
 //! Buffers that are written share no byte with others, which Rust sees to.
 
 mod masked;
+mod wrap;
 
 pub use masked::*;
+pub use wrap::*;
 
 use crate::calls;
 use crate::refusal::Refusal;

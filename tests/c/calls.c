@@ -1,7 +1,7 @@
 /*
  * Every call of the header as a C compiler makes it, with answers of FIPS 197 and of the rules of the masks, and a null pointer
  * of length 0 in the place of each buffer. How the calls answer in general is for the proofs and the second program. Masked
- * decryption is in decryption.c.
+ * decryption is in decryption.c, and key wrap in wrap.c.
  *
  * Usage: calls [NAME]. What is expected of the call NAME, which goes without slipgrease_, is spoiled: it must be found to differ.
  * Prints a line for each difference, and fails if there is any.
@@ -27,29 +27,29 @@ static void rack(void)
     for (int i = 0; i < 16; i++)
         in[i] = (uint8_t)(0x11 * i);
     CALL(expand_key, SLIPGREASE_REPLY_DONE, LENT(key), LENT(w));
-    block("expand_key", w + 16 * 14, "24fc79ccbf0979e9371ac23c6d68de36");
+    bytes("expand_key", w + 16 * 14, "24fc79ccbf0979e9371ac23c6d68de36");
     CALL(expand_key, SLIPGREASE_REPLY_KEY_LENGTH, NONE, LENT(w));
     CALL(expand_key, SLIPGREASE_REPLY_SCHEDULE_LENGTH, LENT(key), NONE);
 
     CALL(encrypt, SLIPGREASE_REPLY_DONE, LENT(w), LENT(in), LENT(out));
-    block("encrypt", out, ciphertext);
+    bytes("encrypt", out, ciphertext);
     CALL(encrypt, SLIPGREASE_REPLY_SCHEDULE_LENGTH, NONE, LENT(in), LENT(out));
     CALL(encrypt, SLIPGREASE_REPLY_INPUT_LENGTH, LENT(w), NONE, LENT(out));
     CALL(encrypt, SLIPGREASE_REPLY_OUTPUT_LENGTH, LENT(w), LENT(in), NONE);
 
     CALL(decrypt, SLIPGREASE_REPLY_DONE, LENT(w), LENT(out), LENT(table));
-    block("decrypt", table, plaintext);
+    bytes("decrypt", table, plaintext);
     CALL(decrypt, SLIPGREASE_REPLY_SCHEDULE_LENGTH, NONE, LENT(in), LENT(out));
     CALL(decrypt, SLIPGREASE_REPLY_INPUT_LENGTH, LENT(w), NONE, LENT(out));
     CALL(decrypt, SLIPGREASE_REPLY_OUTPUT_LENGTH, LENT(w), LENT(in), NONE);
 
     CALL(record_plain, SLIPGREASE_REPLY_DONE, LENT(w), LENT(in), LENT(record));
-    block("record_plain", record, plaintext);
-    block("record_plain", record + 16 * 1, "00102030405060708090a0b0c0d0e0f0");
-    block("record_plain", record + 16 * 2, "63cab7040953d051cd60e0e7ba70e18c");
-    block("record_plain", record + 16 * 3, "6353e08c0960e104cd70b751bacad0e7");
-    block("record_plain", record + 16 * 4, "5f72641557f5bc92f7be3b291db9f91a");
-    block("record_plain", record + 16 * (SLIPGREASE_STATES - 1), ciphertext);
+    bytes("record_plain", record, plaintext);
+    bytes("record_plain", record + 16 * 1, "00102030405060708090a0b0c0d0e0f0");
+    bytes("record_plain", record + 16 * 2, "63cab7040953d051cd60e0e7ba70e18c");
+    bytes("record_plain", record + 16 * 3, "6353e08c0960e104cd70b751bacad0e7");
+    bytes("record_plain", record + 16 * 4, "5f72641557f5bc92f7be3b291db9f91a");
+    bytes("record_plain", record + 16 * (SLIPGREASE_STATES - 1), ciphertext);
     CALL(record_plain, SLIPGREASE_REPLY_SCHEDULE_LENGTH, NONE, LENT(in), LENT(record));
     CALL(record_plain, SLIPGREASE_REPLY_INPUT_LENGTH, LENT(w), NONE, LENT(record));
     CALL(record_plain, SLIPGREASE_REPLY_RECORD_LENGTH, LENT(w), LENT(in), NONE);
@@ -63,9 +63,9 @@ static void many(void)
     memcpy(two, in, sizeof in);
     memcpy(two + sizeof in, out, sizeof out);
     CALL(encrypt_blocks, SLIPGREASE_REPLY_DONE, LENT(w), LENT(two), LENT(made), offsets, 2, 1, 0);
-    block("encrypt_blocks", made, ciphertext);
+    bytes("encrypt_blocks", made, ciphertext);
     CALL(decrypt, SLIPGREASE_REPLY_DONE, LENT(w), made + sizeof in, sizeof in, LENT(table));
-    block("encrypt_blocks", table, ciphertext);
+    bytes("encrypt_blocks", table, ciphertext);
     CALL(encrypt_blocks, SLIPGREASE_REPLY_DONE, LENT(w), NONE, NONE, NONE, 1, 0);
     CALL(encrypt_blocks, SLIPGREASE_REPLY_FORM_UNKNOWN, LENT(w), NONE, NONE, NONE, 1, 1);
     CALL(encrypt_blocks, SLIPGREASE_REPLY_SCHEDULE_LENGTH, NONE, NONE, NONE, NONE, 1, 0);
@@ -76,13 +76,13 @@ static void many(void)
     CALL(encrypt_blocks, SLIPGREASE_REPLY_OFFSETS_LENGTH, LENT(w), LENT(two), LENT(made), LENT(offsets), 1, 0);
     CALL(encrypt_blocks, SLIPGREASE_REPLY_OFFSET_RANGE, LENT(w), LENT(two), LENT(made), offsets + 1, 2, 2, 0);
     CALL(encrypt_blocks, SLIPGREASE_REPLY_STEP_WRONG, LENT(w), LENT(two), LENT(made), offsets, 2, 2, 1);
-    block("encrypt_blocks", made, ciphertext);
+    bytes("encrypt_blocks", made, ciphertext);
 }
 
 static void module(void)
 {
     CALL(encrypt_published, SLIPGREASE_REPLY_DONE, LENT(w), LENT(in), LENT(out), 5, 1, 0);
-    block("encrypt_published", out, ciphertext);
+    bytes("encrypt_published", out, ciphertext);
     CALL(encrypt_published, SLIPGREASE_REPLY_SCHEDULE_LENGTH, NONE, LENT(in), LENT(out), 5, 1, 0);
     CALL(encrypt_published, SLIPGREASE_REPLY_INPUT_LENGTH, LENT(w), NONE, LENT(out), 5, 1, 0);
     CALL(encrypt_published, SLIPGREASE_REPLY_OUTPUT_LENGTH, LENT(w), LENT(in), NONE, 5, 1, 0);
@@ -93,7 +93,7 @@ static void module(void)
     many();
 
     CALL(encrypt_masked, SLIPGREASE_REPLY_DONE, LENT(w), LENT(in), LENT(out), LENT(masks), 5, 1, 0);
-    block("encrypt_masked", out, ciphertext);
+    bytes("encrypt_masked", out, ciphertext);
     CALL(encrypt_masked, SLIPGREASE_REPLY_SCHEDULE_LENGTH, NONE, LENT(in), LENT(out), LENT(masks), 5, 1, 0);
     CALL(encrypt_masked, SLIPGREASE_REPLY_INPUT_LENGTH, LENT(w), NONE, LENT(out), LENT(masks), 5, 1, 0);
     CALL(encrypt_masked, SLIPGREASE_REPLY_OUTPUT_LENGTH, LENT(w), LENT(in), NONE, LENT(masks), 5, 1, 0);
@@ -103,8 +103,8 @@ static void module(void)
     CALL(encrypt_masked, SLIPGREASE_REPLY_FORM_UNKNOWN, LENT(w), LENT(in), LENT(out), LENT(masks), 5, 1, 1);
 
     CALL(record_masked, SLIPGREASE_REPLY_DONE, LENT(w), LENT(in), LENT(masks), 5, 1, LENT(record));
-    block("record_masked", record, covered);
-    block("record_masked", record + 16 * (SLIPGREASE_STATES - 1), ciphertext);
+    bytes("record_masked", record, covered);
+    bytes("record_masked", record + 16 * (SLIPGREASE_STATES - 1), ciphertext);
     CALL(record_masked, SLIPGREASE_REPLY_SCHEDULE_LENGTH, NONE, LENT(in), LENT(masks), 5, 1, LENT(record));
     CALL(record_masked, SLIPGREASE_REPLY_INPUT_LENGTH, LENT(w), NONE, LENT(masks), 5, 1, LENT(record));
     CALL(record_masked, SLIPGREASE_REPLY_MASKS_LENGTH, LENT(w), LENT(in), NONE, 5, 1, LENT(record));
@@ -124,14 +124,14 @@ static void steps(void)
         CALL(encrypt_published, reply, LENT(w), LENT(in), LENT(out), 5, d, 0);
         CALL(encrypt_blocks, reply, LENT(w), LENT(in), LENT(table), LENT(five), d, 0);
         if (reply == SLIPGREASE_REPLY_DONE) {
-            block("encrypt_published", out, ciphertext);
-            block("encrypt_blocks", table, ciphertext);
+            bytes("encrypt_published", out, ciphertext);
+            bytes("encrypt_blocks", table, ciphertext);
         }
         memset(out, 0, sizeof out);
         CALL(encrypt_masked, reply, LENT(w), LENT(in), LENT(out), LENT(masks), 5, d, 0);
         CALL(record_masked, reply, LENT(w), LENT(in), LENT(masks), 5, d, LENT(record));
         if (reply == SLIPGREASE_REPLY_DONE) {
-            block("encrypt_masked", out, ciphertext);
+            bytes("encrypt_masked", out, ciphertext);
             under("record_masked", record, 5, plaintext);
             under("record_masked", record + 16 * 1, 5, "00102030405060708090a0b0c0d0e0f0");
             under("record_masked", record + 16 * 2, 5 + d, "63cab7040953d051cd60e0e7ba70e18c");
@@ -139,7 +139,7 @@ static void steps(void)
             under("record_masked", record + 16 * 6, 5 + d, "4f63760643e0aa85efa7213201a4e705");
             under("record_masked", record + 16 * 7, 5 + 2 * d, "84fb386f1ae1ac97df5cfd237c49946b");
             under("record_masked", record + 16 * 10, 5 + 2 * d, "bd2a395d2b6ac438d192443e615da195");
-            block("record_masked", record + 16 * (SLIPGREASE_STATES - 1), ciphertext);
+            bytes("record_masked", record + 16 * (SLIPGREASE_STATES - 1), ciphertext);
         }
     }
 }
@@ -156,15 +156,15 @@ static void forms(void)
     }
     CALL(encrypt, SLIPGREASE_REPLY_DONE, LENT(w), LENT(in), LENT(out));
     CALL(convert, SLIPGREASE_REPLY_DONE, LENT(out), LENT(table), 5);
-    block("convert", table, form_1);
+    bytes("convert", table, form_1);
     CALL(convert, SLIPGREASE_REPLY_DONE, LENT(table), LENT(out), 5);
-    block("convert", out, ciphertext);
+    bytes("convert", out, ciphertext);
     CALL(convert, SLIPGREASE_REPLY_DONE, LENT(out), LENT(table), 7);
-    block("convert", table, form_1_at_7);
+    bytes("convert", table, form_1_at_7);
     CALL(convert, SLIPGREASE_REPLY_INPUT_LENGTH, NONE, NONE, 16);
     CALL(convert, SLIPGREASE_REPLY_OUTPUT_LENGTH, LENT(out), NONE, 16);
     CALL(convert, SLIPGREASE_REPLY_OFFSET_RANGE, LENT(out), LENT(table), 16);
-    block("convert", table, form_1_at_7);
+    bytes("convert", table, form_1_at_7);
 }
 
 static void sheets(void)
@@ -172,11 +172,11 @@ static void sheets(void)
     static const char sixteen[] = "000f3639535c656a959aa3acc6c9f0ff";
     uint8_t one[SLIPGREASE_SHEET_1_BYTES], two[SLIPGREASE_SHEET_2_BYTES];
     CALL(write_sheet, SLIPGREASE_REPLY_DONE, LENT(masks), 1, LENT(one));
-    block("write_sheet", one, "4d534b0001000f3639535c656a959aa3");
-    block("write_sheet", one + 5, sixteen);
+    bytes("write_sheet", one, "4d534b0001000f3639535c656a959aa3");
+    bytes("write_sheet", one + 5, sixteen);
     CALL(write_sheet, SLIPGREASE_REPLY_DONE, LENT(masks), 5, LENT(two));
-    block("write_sheet", two, "4d534b0002000f3639535c656a959aa3");
-    block("write_sheet", two + 5, sixteen);
+    bytes("write_sheet", two, "4d534b0002000f3639535c656a959aa3");
+    bytes("write_sheet", two + 5, sixteen);
     number("write_sheet", two[21], 5);
     CALL(write_sheet, SLIPGREASE_REPLY_STEP_WRONG, NONE, 2, NONE);
     CALL(write_sheet, SLIPGREASE_REPLY_SHEET_LENGTH, NONE, 1, NONE);
@@ -186,9 +186,9 @@ static void sheets(void)
     CALL(write_sheet, SLIPGREASE_REPLY_MASKS_LENGTH, NONE, 5, LENT(two));
 
     PACKED(read_sheet, SLIPGREASE_REPLY_DONE, 1, LENT(one), LENT(out));
-    block("read_sheet", out, sixteen);
+    bytes("read_sheet", out, sixteen);
     PACKED(read_sheet, SLIPGREASE_REPLY_DONE, 5, LENT(two), LENT(table));
-    block("read_sheet", table, sixteen);
+    bytes("read_sheet", table, sixteen);
     PACKED(read_sheet, SLIPGREASE_REPLY_MASKS_LENGTH, 0, LENT(one), NONE);
     for (int step = 0; step < 256; step++) {
         unsigned reply = step >= 4 && step <= 15 ? SLIPGREASE_REPLY_MASKS_LENGTH : SLIPGREASE_REPLY_STEP_WRONG;
@@ -226,6 +226,10 @@ static void beside(void)
     CALL(sort_reply, SLIPGREASE_CALLER_FAULT, SLIPGREASE_REPLY_RECORD_LENGTH);
     CALL(sort_reply, SLIPGREASE_DATA_FAULT, SLIPGREASE_REPLY_NO_LOGARITHM);
     CALL(sort_reply, SLIPGREASE_CALLER_FAULT, SLIPGREASE_REPLY_STEP_WRONG);
+    CALL(sort_reply, SLIPGREASE_CALLER_FAULT, SLIPGREASE_REPLY_KEY_DATA_LENGTH);
+    CALL(sort_reply, SLIPGREASE_CALLER_FAULT, SLIPGREASE_REPLY_WRAPPED_LENGTH);
+    CALL(sort_reply, SLIPGREASE_DATA_FAULT, SLIPGREASE_REPLY_INTEGRITY);
+    CALL(sort_reply, SLIPGREASE_CALLER_FAULT, SLIPGREASE_REPLY_INTEGRITY + 1);
 }
 
 int main(int count, char **words)
@@ -236,6 +240,7 @@ int main(int count, char **words)
     module();
     steps();
     decryption();
+    key_wrap();
     forms();
     sheets();
     beside();

@@ -22,10 +22,10 @@ void packed(const char *call, uint16_t given, unsigned reply, unsigned value)
     number(call, SLIPGREASE_VALUE(given), value);
 }
 
-void block(const char *call, const uint8_t *given, const char *expected)
+void bytes(const char *call, const uint8_t *given, const char *expected)
 {
-    char digits[33];
-    for (int i = 0; i < 16; i++)
+    char digits[2 * SLIPGREASE_KEY_DATA_MAX + 1] = "";
+    for (size_t i = 0; i < strlen(expected) / 2; i++)
         sprintf(digits + 2 * i, "%02x", given[i]);
     if (strcmp(call, spoiled) == 0)
         expected = "spoiled";
@@ -40,7 +40,23 @@ void under(const char *call, const uint8_t *given, size_t label, const char *exp
     uint8_t bare[16];
     for (size_t i = 0; i < 16; i++)
         bare[i] = given[i] ^ masks[(label + i) % 16];
-    block(call, bare, expected);
+    bytes(call, bare, expected);
+}
+
+size_t read_digits(uint8_t *to, const char *digits)
+{
+    size_t length = strlen(digits) / 2;
+    for (size_t i = 0; i < length; i++)
+        sscanf(digits + 2 * i, "%2hhx", &to[i]);
+    return length;
+}
+
+unsigned touched(const uint8_t *buffer, size_t length)
+{
+    unsigned count = 0;
+    for (size_t i = 0; i < length; i++)
+        count += buffer[i] != UNTOUCHED;
+    return count;
 }
 
 uint8_t reply_to_step(uint8_t d)

@@ -1,5 +1,6 @@
 /*
- * What the tests of the calls share: how an answer is compared, and the example of FIPS 197, C.3.
+ * What the tests of the calls share: how an answer is compared, how every set of causes of refusal is tried, and the example of
+ * FIPS 197, C.3.
  */
 #include <slipgrease.h>
 
@@ -18,9 +19,12 @@ extern int faults;
 void number(const char *call, unsigned given, unsigned expected);
 void packed(const char *call, uint16_t given, unsigned reply, unsigned value);
 
-/* Sixteen bytes, which should have these hex digits; and sixteen under Mask(label), which uncovered should have them. */
-void block(const char *call, const uint8_t *given, const char *expected);
+/* Bytes that should have these hex digits; and sixteen under Mask(label), which uncovered should have them. */
+void bytes(const char *call, const uint8_t *given, const char *expected);
 void under(const char *call, const uint8_t *given, size_t label, const char *expected);
+
+/* Writes the bytes that have these hex digits, and gives how many they are. */
+size_t read_digits(uint8_t *to, const char *digits);
 
 /* What a masked run should answer that is asked for with step d, and with nothing wrong else. */
 uint8_t reply_to_step(uint8_t d);
@@ -30,5 +34,38 @@ extern const char plaintext[], ciphertext[];
 extern uint8_t w[SLIPGREASE_SCHEDULE_BYTES];
 extern const uint8_t masks[SLIPGREASE_MASKS_BYTES];
 
-/* In decryption.c: the calls of masked decryption. */
+/* A lent buffer. Behind its bytes there is one more, for a length that is too great. */
+struct buffer {
+    uint8_t *bytes;
+    size_t length;
+};
+
+/* What calls are lent; each takes its own part of it. */
+struct lent {
+    struct buffer schedule, input, output, masks, record, key_data, wrapped;
+    uint8_t offset, step;
+};
+
+/* A buffer as it is handed over. */
+#define HANDED(buffer) lent->buffer.bytes, lent->buffer.length
+
+/* What a buffer holds that nothing has been written to. */
+enum { UNTOUCHED = 0x55 };
+
+/* How many bytes of a buffer do not hold that. */
+unsigned touched(const uint8_t *buffer, size_t length);
+
+/* A call with its refusals in their order, behind which there are zeros. */
+struct call {
+    const char *name;
+    uint8_t (*answer)(const struct lent *);
+    uint8_t refusals[7];
+};
+
+/* In refusals.c: whatever the causes are, the first in the call's list is told, and nothing is written. `right` gives what has no
+   cause, and `written` how many bytes that the call could have written are touched. */
+void refusals(const struct call *call, struct lent (*right)(void), unsigned (*written)(void));
+
+/* In decryption.c: the calls of masked decryption. In wrap.c: those of key wrap. */
 void decryption(void);
+void key_wrap(void);

@@ -29,6 +29,10 @@ isKey key = eqb (length key) 32 else 1
 abbrev pub isSchedule : List ℕ → Check
 isSchedule schedule = eqb (length schedule) 240 else 2
 
+-- where only the schedule of a 32-byte key will ever do: key wrap, and what keeps to one offset
+abbrev pub isFullSchedule : List ℕ → Check
+isFullSchedule schedule = eqb (length schedule) 240 else 2
+
 abbrev pub isInput : List ℕ → Check
 isInput input = eqb (length input) 16 else 3
 
@@ -105,3 +109,14 @@ stepOf sheet = cond (eqb (version sheet) 1) 1 (getD sheet 21 0)
 
 abbrev pub hasStep : List ℕ → Check
 hasStep sheet = (eqb (version sheet) 1 || (leb 4 (stepOf sheet) && leb (stepOf sheet) 15)) else 15
+
+-- key data: 16 to 256 bytes in multiples of 8
+abbrev pub isKeyData : List ℕ → Check
+isKeyData keys = eqb (length keys % 8) 0 && leb 16 (length keys) && leb (length keys) 256 else 16
+
+abbrev pub isWrappedOf : List ℕ → List ℕ → Check
+isWrappedOf keys wrapped = eqb (length wrapped) (length keys + 8) else 17
+
+-- the register that unwrapping recovers is RFC 3394's initial value
+abbrev pub isIntact : List ℕ → Check
+isIntact register = below 8 (λ i. eqb (getD register i 0) 0xa6) else 18

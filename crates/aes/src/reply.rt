@@ -32,6 +32,12 @@ pub const OFFSETS_LENGTH: u8 = 14;
 
 pub const STEP_WRONG: u8 = 15;
 
+pub const KEY_DATA_LENGTH: u8 = 16;
+
+pub const WRAPPED_LENGTH: u8 = 17;
+
+pub const INTEGRITY: u8 = 18;
+
 // A reply number and a value side by side; a refusal has value 0.
 pub struct Valued {
     pub number: u8,

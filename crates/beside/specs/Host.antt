@@ -16,6 +16,6 @@ sortedNumber DataFault = 2
 abbrev pub within : ℕ → ℕ → ℕ → Bool
 within low high n = leb low n && leb n high
 
--- 0 go on, 1 to 8 caller fault, 9 to 13 data fault; a number above 13 is a caller fault
+-- 0 go on, 1 to 8 caller fault, 9 to 13 and 18 data fault; any other number above 13 is a caller fault
 abbrev pub sortReplyOf : ℕ → ℕ
-sortReplyOf n = cond (eqb n 0) 0 (cond (within 1 8 n) 1 (cond (within 9 13 n) 2 1))
+sortReplyOf n = cond (eqb n 0) 0 (cond (within 1 8 n) 1 (cond (within 9 13 n) 2 (cond (eqb n 18) 2 1)))

@@ -16,6 +16,7 @@ pub fn sort_reply(number: u8) -> Sorted
         0 => Sorted::GoOn,
         1..=8 => Sorted::CallerFault,
         9..=13 => Sorted::DataFault,
+        18 => Sorted::DataFault,
         _ => Sorted::CallerFault,
     }
 }

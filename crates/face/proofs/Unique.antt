@@ -22,6 +22,10 @@ use Rattle.face.proofs.slipgrease_record_masked.Reads as record-masked
 use Rattle.face.proofs.slipgrease_record_masked_decryption.Reads as record-masked-decryption
 use Rattle.face.proofs.slipgrease_record_plain.Reads as record-plain
 use Rattle.face.proofs.slipgrease_sort_reply.Reads as sort-reply
+use Rattle.face.proofs.slipgrease_unwrap.Reads as unwrap
+use Rattle.face.proofs.slipgrease_unwrap_masked.Reads as unwrap-masked
+use Rattle.face.proofs.slipgrease_wrap.Reads as wrap
+use Rattle.face.proofs.slipgrease_wrap_masked.Reads as wrap-masked
 use Rattle.face.proofs.slipgrease_write_sheet.Reads as write-sheet
 
 pub multiply-unique : Unique multiply.Post
@@ -83,6 +87,18 @@ write-sheet-unique κs args e f x y p q = both x y _ _ _ p q
 
 pub convert-unique : UniqueWriting convert.Post (λ κs e. e .1 .0 .now)
 convert-unique κs args e f x y p q = both x y _ _ _ p q
+
+pub wrap-unique : UniqueWriting wrap.Post (λ κs e. e .1 .1 .0 .now)
+wrap-unique κs args e f x y p q = both x y _ _ _ p q
+
+pub unwrap-unique : UniqueWriting unwrap.Post (λ κs e. e .1 .1 .0 .now)
+unwrap-unique κs args e f x y p q = both x y _ _ _ p q
+
+pub wrap-masked-unique : UniqueWriting wrap-masked.Post (λ κs e. e .1 .1 .0 .now)
+wrap-masked-unique κs args e f x y p q = both x y _ _ _ p q
+
+pub unwrap-masked-unique : UniqueWriting unwrap-masked.Post (λ κs e. e .1 .1 .0 .now)
+unwrap-masked-unique κs args e f x y p q = both x y _ _ _ p q
 
 pub sort-reply-unique : Unique sort-reply.Post
 sort-reply-unique κs args exit x y p q = p ∙ sym q

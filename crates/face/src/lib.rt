@@ -9,6 +9,7 @@ ghost use Rattle.beside.specs.Fitness.{fitnessOf};
 ghost use Rattle.beside.specs.Inversion.{maskedInverse};
 ghost use Rattle.beside.specs.Stored.{convertOf};
 ghost use Rattle.beside.specs.Host.{sortedNumber, sortReplyOf};
+ghost use Rattle.wrap.specs.Calls.{wrapOf, wrapMaskedOf, unwrapOf, unwrapMaskedOf};
 ghost use Rattle.face.specs.Packed.{packed, packedBeside};
 use aes::reply::Valued;
 use beside::Sorted;
@@ -165,6 +166,44 @@ pub extern "C" fn slipgrease_convert(input: &[u8], output: &mut [u8], offset: u8
     ensures { λ r. ⌜ (r, now (output .exit)) ≡ convertOf (now (input .entry)) (now (output .entry)) offset ⌝ }
 {
     beside::convert(input, output, offset)
+}
+
+#[no_mangle]
+pub extern "C" fn slipgrease_wrap(schedule: &[u8], key_data: &[u8], wrapped: &mut [u8]) -> u8
+    ensures { λ r. ⌜ (r, now (wrapped .exit)) ≡ wrapOf (now (schedule .entry)) (now (key_data .entry)) (now (wrapped .entry)) ⌝ }
+{
+    wrap::wrap(schedule, key_data, wrapped)
+}
+
+#[no_mangle]
+pub extern "C" fn slipgrease_unwrap(schedule: &[u8], wrapped: &[u8], key_data: &mut [u8]) -> u8
+    ensures { λ r. ⌜ (r, now (key_data .exit)) ≡ unwrapOf (now (schedule .entry)) (now (wrapped .entry)) (now (key_data .entry)) ⌝ }
+{
+    wrap::unwrap(schedule, wrapped, key_data)
+}
+
+#[no_mangle]
+pub extern "C" fn slipgrease_wrap_masked(
+    schedule: &[u8],
+    key_data: &[u8],
+    wrapped: &mut [u8],
+    offset: u8,
+) -> u8
+    ensures { λ r. ⌜ (r, now (wrapped .exit)) ≡ wrapMaskedOf (now (schedule .entry)) (now (key_data .entry)) (now (wrapped .entry)) offset ⌝ }
+{
+    wrap::wrap_masked(schedule, key_data, wrapped, offset)
+}
+
+#[no_mangle]
+pub extern "C" fn slipgrease_unwrap_masked(
+    schedule: &[u8],
+    wrapped: &[u8],
+    key_data: &mut [u8],
+    offset: u8,
+) -> u8
+    ensures { λ r. ⌜ (r, now (key_data .exit)) ≡ unwrapMaskedOf (now (schedule .entry)) (now (wrapped .entry)) (now (key_data .entry)) offset ⌝ }
+{
+    wrap::unwrap_masked(schedule, wrapped, key_data, offset)
 }
 
 #[no_mangle]

@@ -14,6 +14,9 @@ pub enum Kind {
     EncryptedChain,
     DecryptedChain,
     Step,
+    RfcWrap,
+    NistWrap,
+    DamagedWrap,
     Unknown,
 }
 
@@ -27,9 +30,12 @@ pub fn kind_of(line: &[u8], counts: &mut [u64; CELLS]) -> Kind {
 # inverse rounds
 # chain encrypt
 # chain decrypt
-# steps";
-    let place = place_of(line, headers, 8);
-    if (0 < place) & (place < 8) {
+# steps
+# wrap rfc
+# wrap nist
+# wrap damaged";
+    let place = place_of(line, headers, 11);
+    if (0 < place) & (place < 11) {
         counts[SOURCE] = place as u64;
         return Kind::Header;
     }
@@ -46,6 +52,9 @@ pub fn kind_of(line: &[u8], counts: &mut [u64; CELLS]) -> Kind {
         5 => Kind::EncryptedChain,
         6 => Kind::DecryptedChain,
         7 => Kind::Step,
+        8 => Kind::RfcWrap,
+        9 => Kind::NistWrap,
+        10 => Kind::DamagedWrap,
         _ => Kind::Unknown,
     }
 }

@@ -1,32 +1,21 @@
 -- Many blocks in one call: what its checks tell of each block, and why each comes out as in a call of its own.
 -- Assumes nothing.
-use mathlib.Core.Path.{_≡_, refl, ap, sym, _∙_}
-use mathlib.Core.List.{List, _∷_}
-use Prim.Native.Nat.{ℕ, _-_, _*_, _/_, _%_, _<_}
+use mathlib.Core.Path.{_≡_, ap, sym, _∙_}
+use mathlib.Core.List.{List}
+use Prim.Native.Nat.{ℕ, _*_, _/_, _%_, _<_}
 use native.Mathlib.Omega.{arith}
 use lib.Dec.{eqb, leb, eqb→eq}
 use lib.ListN.{length, drop, length-drop}
 use lib.Seq.{length-take-le}
 use mir.Facts.{and-yes}
-use Rattle.aes.specs.State.{at, addRoundKey}
+use Rattle.aes.specs.State.{at}
 use Rattle.aes.specs.Reply.{refusal}
-use Rattle.aes.specs.Record.{final, block, wholes, points, run, last}
 use Rattle.aes.proofs.Below.{under}
 use Rattle.aes.proofs.Replies.{AllHold, telling, holds-done, all-hold}
-use Rattle.aes.proofs.Written.{run-append, last-append}
 use Rattle.masks.specs.Mask.{inRow}
-use Rattle.runs.specs.Run.{covered, maskedRecord, maskedCipher}
 use Rattle.masked.specs.Calls.{publishedChecks, blockAt, blocksChecks, encryptPublishedOf}
 use Rattle.masked.specs.Calls.{inTurn}
 use Rattle.masks.proofs.Row.{row-same}
-
--- a run ends in sixteen bytes
-pub masked-size : (nr : ℕ) (M : List ℕ) (o d : ℕ) (w b : List ℕ) → length (maskedCipher nr M o d w b) ≡ 16
-unfolding maskedCipher maskedRecord points run last covered addRoundKey
-masked-size nr M o d w b =
-    let f = covered M o d w in
-    let ps = block ∷ wholes (nr - 1) in
-    rw (run-append f ps (final (nr - 1)) b, last-append b (run f b ps) (run f (last b (run f b ps)) (final (nr - 1)))) refl
 
 block-size : (k n : ℕ) (xs : List ℕ) → length xs ≡ 16 * n → k < n → length (blockAt k xs) ≡ 16
 block-size k n xs l lt = length-take-le 16 (drop (16 * k) xs) (rw length-drop (omega arith))

@@ -1,3 +1,4 @@
 pub mod Checked
 pub mod Batch
 pub mod Unique
+pub mod Sizes

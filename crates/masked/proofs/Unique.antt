@@ -7,6 +7,8 @@ use Rattle.masked.proofs.calls.decrypt.record_masked_decryption.Reads a
 use Rattle.masked.proofs.calls.encrypt.encrypt_masked.Reads as encrypt-masked
 use Rattle.masked.proofs.calls.encrypt.encrypt_published.Reads as encrypt-published
 use Rattle.masked.proofs.calls.many.encrypt_blocks.Reads as encrypt-blocks
+use Rattle.masked.proofs.calls.one.decrypt_one.Reads as decrypt-one
+use Rattle.masked.proofs.calls.one.encrypt_one.Reads as encrypt-one
 use Rattle.masked.proofs.calls.record.record_masked.Reads as record-masked
 
 pub encrypt-published-unique : UniqueWriting encrypt-published.Post (λ κs e. e .1 .1 .0 .now)
@@ -29,3 +31,9 @@ record-masked-unique κs args e f x y p q = both x y _ _ _ p q
 
 pub record-masked-decryption-unique : UniqueWriting record-masked-decryption.Post (λ κs e. e .1 .1 .1 .1 .1 .0 .now)
 record-masked-decryption-unique κs args e f x y p q = both x y _ _ _ p q
+
+pub encrypt-one-unique : UniqueWriting encrypt-one.Post (λ κs e. e .1 .1 .0 .now)
+encrypt-one-unique κs args e f x y p q = both x y _ _ _ p q
+
+pub decrypt-one-unique : UniqueWriting decrypt-one.Post (λ κs e. e .1 .1 .0 .now)
+decrypt-one-unique κs args e f x y p q = both x y _ _ _ p q

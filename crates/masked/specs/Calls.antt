@@ -6,7 +6,7 @@ use lib.Dec.{eqb}
 use lib.ListN.{length, take, drop}
 use Rattle.aes.specs.State.{at}
 use Rattle.aes.specs.Record.{bytes}
-use Rattle.aes.specs.Reply.{Check, _else_, answer, isSchedule, isInput, isOutput, isMaskTable, isOffset, isStep, isForm, areBlocks, isAsLong, hasOffsets, areOffsets}
+use Rattle.aes.specs.Reply.{Check, _else_, answer, isSchedule, isFullSchedule, isInput, isOutput, isMaskTable, isOffset, isStep, isForm, areBlocks, isAsLong, hasOffsets, areOffsets}
 use Rattle.masks.specs.Mask.{published, inRow}
 use Rattle.runs.specs.Run.{maskedRecord, maskedCipher}
 use Rattle.runs.specs.Back.{maskedBackRecord, maskedInvCipher}
@@ -76,3 +76,19 @@ decryptMaskedOf schedule input output masks offset step =
 abbrev pub recordMaskedDecryptionOf : List ℕ → List ℕ → List ℕ → ℕ → ℕ → List ℕ → ℕ × List ℕ
 recordMaskedDecryptionOf schedule input masks offset step states =
     answer (recordChecks 1360 schedule input masks offset step states) states (bytes (maskedBackRecord 14 masks offset step schedule input))
+
+-- One block for callers that keep one offset, with the published masks and step 1, whatever the calls above come to take.
+abbrev pub sealedOne : ℕ → List ℕ → List ℕ → List ℕ
+sealedOne offset schedule input = maskedCipher 14 published offset 1 schedule input
+
+abbrev pub openedOne : ℕ → List ℕ → List ℕ → List ℕ
+openedOne offset schedule input = maskedInvCipher 14 published offset 1 schedule input
+
+abbrev pub oneChecks : List ℕ → List ℕ → List ℕ → ℕ → List Check
+oneChecks schedule input output offset = isFullSchedule schedule ∷ isInput input ∷ isOutput output ∷ isOffset offset ∷ []
+
+abbrev pub encryptOneOf : List ℕ → List ℕ → List ℕ → ℕ → ℕ × List ℕ
+encryptOneOf schedule input output offset = answer (oneChecks schedule input output offset) output (sealedOne offset schedule input)
+
+abbrev pub decryptOneOf : List ℕ → List ℕ → List ℕ → ℕ → ℕ × List ℕ
+decryptOneOf schedule input output offset = answer (oneChecks schedule input output offset) output (openedOne offset schedule input)

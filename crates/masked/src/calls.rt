@@ -4,4 +4,5 @@ mod chosen;
 pub mod decrypt;
 pub mod encrypt;
 pub mod many;
+pub mod one;
 pub mod record;

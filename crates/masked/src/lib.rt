@@ -7,4 +7,6 @@ pub use calls::decrypt::record_masked_decryption;
 pub use calls::encrypt::encrypt_masked;
 pub use calls::encrypt::encrypt_published;
 pub use calls::many::encrypt_blocks;
+pub use calls::one::decrypt_one;
+pub use calls::one::encrypt_one;
 pub use calls::record::record_masked;

@@ -26,3 +26,5 @@ pub mod Trips
 pub mod BackStates
 pub mod BackBalance
 pub mod BackOrder
+pub mod WrapTrip
+pub mod KeyWrap

@@ -38,6 +38,14 @@ module _ (n : ℕ) (w : List ℕ) (h : Bytes n w) where
       )
       (inv-rounds-rounds n b)
 
+  pub cipher-bytes : (nr : ℕ) {block : List ℕ} → Bytes 16 block → Bytes 16 (cipher nr w block)
+  unfolding cipher
+  cipher-bytes nr b = add-bytes (shift-bytes (sub-bytes (rounds-bytes (nr - 1) (add-bytes b (key 0))))) (key nr)
+
+  pub inv-cipher-bytes : (nr : ℕ) {block : List ℕ} → Bytes 16 block → Bytes 16 (invCipher nr w block)
+  unfolding invCipher
+  inv-cipher-bytes nr b = add-bytes (inv-sub-bytes (inv-shift-bytes (inv-rounds-bytes (nr - 1) (add-bytes b (key nr))))) (key 0)
+
   pub inv-cipher-cipher : (nr : ℕ) {block : List ℕ} → Bytes 16 block → invCipher nr w (cipher nr w block) ≡ block
   unfolding cipher invCipher
   inv-cipher-cipher nr {block} b =

@@ -3,3 +3,4 @@ pub mod Neighbours
 pub mod Balance
 pub mod BackTable
 pub mod Ways
+pub mod Wrapping

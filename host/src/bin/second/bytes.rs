@@ -81,7 +81,7 @@ pub const BYTE_CALLS: &[ByteCall] = &[
     },
     ByteCall {
         name: "sort_reply",
-        method: "three ranges",
+        method: "ranges",
         inputs: 1 << 8,
         library: |number, _| value(calls::sort_reply(number)),
         reference: |number, _| value(sheet::sorted(number)),

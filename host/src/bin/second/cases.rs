@@ -1,5 +1,7 @@
 //! Draws what a call is lent, with the causes of refusal that are asked for and no others.
 
+mod wraps;
+
 use crate::cipher::{expand_key, Boxes};
 use crate::lent::{Buffer, Lent};
 use crate::masked::PUBLISHED;
@@ -7,7 +9,7 @@ use crate::random::Random;
 use crate::replies::{record_length, takes_many, Cause};
 
 /// The lengths that calls take: each is the wrong one for another buffer.
-const LENGTHS: [usize; 7] = [16, 21, 22, 32, 240, 1136, 1360];
+const LENGTHS: [usize; 9] = [16, 21, 22, 24, 32, 240, 264, 1136, 1360];
 
 /// For a call that has such an order of refusals. Broken has the causes that are wanted.
 pub fn draw(random: &mut Random, boxes: &Boxes, order: &[Cause], broken: &[Cause]) -> Lent {
@@ -24,11 +26,13 @@ pub fn draw(random: &mut Random, boxes: &Boxes, order: &[Cause], broken: &[Cause
     let step = step(random, wants(Cause::Step));
     let sheet = sheet(random, wants);
     let blank = bytes(random, if step == 1 { 21 } else { 22 }, wants(Cause::BlankLength));
-    let [key, schedule, input, output, masks, states, sheet, blank, offsets] =
-        [key, schedule, input, output, masks, states, sheet, blank, offsets].map(|body| Buffer::new(random, &body));
+    let (key_data, wrapped) = wraps::pair(random, boxes, &schedule, order, wants);
+    let [key, schedule, input, output, masks, states, sheet, blank, offsets, key_data, wrapped] =
+        [key, schedule, input, output, masks, states, sheet, blank, offsets, key_data, wrapped]
+            .map(|body| Buffer::new(random, &body));
     let offset = if wants(Cause::Offset) { 16 + random.below(240) } else { random.below(16) } as u8;
     let form = form(random, wants(Cause::Form));
-    Lent { key, schedule, input, output, masks, states, sheet, blank, offsets, offset, step, form }
+    Lent { key, schedule, input, output, masks, states, sheet, blank, offsets, key_data, wrapped, offset, step, form }
 }
 
 /// Empty, one off, twice as long, a length that another buffer has, or any.

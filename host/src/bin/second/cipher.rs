@@ -59,11 +59,24 @@ pub fn inv_shift_rows(s: &State) -> State {
     from_fn(|i| s[i % 4 + 4 * ((i / 4 + 4 - i % 4) % 4)])
 }
 
+/// Each byte times each number up to 0f, worked out once from the formula: columns are mixed with such numbers.
+static PRODUCTS: [[u8; 256]; 16] = products();
+
+const fn products() -> [[u8; 256]; 16] {
+    let mut products = [[0; 256]; 16];
+    let mut n = 0;
+    while n < 16 * 256 {
+        products[n / 256][n % 256] = times((n % 256) as u8, (n / 256) as u8);
+        n += 1;
+    }
+    products
+}
+
 /// Each column times the circulant matrix whose first row is given.
-fn mix(s: &State, first_row: [u8; 4]) -> State {
+fn mix(s: &State, first_row: [usize; 4]) -> State {
     from_fn(|i| {
         let (row, column) = (i % 4, i / 4);
-        (0..4).fold(0, |sum, k| sum ^ times(s[4 * column + k], first_row[(k + 4 - row) % 4]))
+        (0..4).fold(0, |sum, k| sum ^ PRODUCTS[first_row[(k + 4 - row) % 4]][usize::from(s[4 * column + k])])
     })
 }
 

@@ -5,7 +5,7 @@ use crate::cases::draw;
 use crate::cipher::Boxes;
 use crate::lent::Lent;
 use crate::random::Random;
-use crate::replies::{reply, Cause};
+use crate::replies::{opens, reply, Cause};
 use crate::report::Tally;
 use crate::table::Call;
 
@@ -71,6 +71,8 @@ fn broken(call: &Call, random: &mut Random, case: usize) -> Vec<Cause> {
     let set = match case {
         _ if case < TIMES_EACH * sets => case % sets,
         _ if random.below(8) == 0 => random.below(sets),
+        // A wrapped key can be broken in many ways: integrity, the last cause, is met alone as often.
+        _ if opens(call.refusals) && random.below(8) == 0 => sets / 2,
         _ => 0,
     };
     let chosen = call.refusals.iter().enumerate().filter(|(i, _)| set >> i & 1 == 1);
@@ -79,7 +81,7 @@ fn broken(call: &Call, random: &mut Random, case: usize) -> Vec<Cause> {
 
 /// What should be answered, and what lent should hold then: the same as before, where the call is refused.
 fn answer(call: &Call, boxes: &Boxes, lent: &mut Lent) -> Answer {
-    let number = reply(call.refusals, lent);
+    let number = reply(call.refusals, boxes, lent);
     let value = if number == 0 { (call.reference)(boxes, lent) } else { 0 };
     Answer { number, value }
 }

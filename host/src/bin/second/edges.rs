@@ -4,6 +4,7 @@ mod records;
 mod sheets;
 mod steps;
 mod stored;
+mod wraps;
 
 use crate::masked::PUBLISHED;
 use crate::report::Tally;
@@ -35,6 +36,9 @@ pub fn compare(spoiled: bool) -> Tally {
         stored::refused(),
         stored::converted(),
         records::box_order(),
+        wraps::examples(),
+        wraps::refused(),
+        wraps::broken(),
     ];
     for edge in edges.into_iter().flatten() {
         let expected = edge.expected ^ u16::from(spoiled);
@@ -67,6 +71,8 @@ fn huge() -> Vec<Edge> {
         edge("reply to a block of a mebibyte", calls::encrypt(&[0; 240], &many, &mut [0; 16]), 3),
         edge("reply to a mask table of a mebibyte", calls::fitness(&many) >> 8, 5),
         edge("the same, decrypting", calls::decrypt_masked(&[0; 240], &[0; 16], &mut [0; 16], &many, 0, 1), 5),
+        edge("reply to key data of a mebibyte, wrapped", calls::wrap(&[0; 240], &many, &mut [0; 24]), 16),
+        edge("reply to a wrapped key of a mebibyte", calls::unwrap(&[0; 240], &many, &mut [0; 16]), 17),
         edge("reply to a sheet of a mebibyte", calls::read_sheet(&sheet, &mut [0; 16]) >> 8, 11),
     ]
 }

@@ -1,15 +1,16 @@
 //! The field and the S-box of FIPS 197 by their definitions: no table and no logarithm.
 
 /// The product of two bytes as polynomials modulo 11b, by shifting and reducing.
-pub fn times(a: u8, b: u8) -> u8 {
-    let mut shifted = a;
+pub const fn times(a: u8, b: u8) -> u8 {
+    let (mut shifted, mut bits) = (a, b);
     let mut sum = 0;
-    for bit in 0..8 {
-        if b >> bit & 1 == 1 {
+    while bits > 0 {
+        if bits & 1 == 1 {
             sum ^= shifted;
         }
         let carry = shifted >> 7;
         shifted = (shifted << 1) ^ (carry * 0x1b);
+        bits >>= 1;
     }
     sum
 }

@@ -34,6 +34,12 @@ impl Buffer {
         self.lent().try_into().expect("sixteen bytes")
     }
 
+    /// Any bytes of a length.
+    pub fn any(random: &mut Random, length: usize) -> Buffer {
+        let body = random.bytes(length);
+        Buffer::new(random, &body)
+    }
+
     /// Changes one bit, of the lent bytes or of their guards.
     pub fn spoil(&mut self, random: &mut Random) {
         let place = random.below(self.bytes.len());
@@ -55,13 +61,16 @@ pub struct Lent {
     pub blank: Buffer,
     /// For many blocks, the offset of each.
     pub offsets: Buffer,
+    /// Key data, and a wrapped key.
+    pub key_data: Buffer,
+    pub wrapped: Buffer,
     pub offset: u8,
     pub step: u8,
     pub form: u8,
 }
 
 impl Lent {
-    fn buffers(&self) -> [(&'static str, &Buffer); 9] {
+    fn buffers(&self) -> [(&'static str, &Buffer); 11] {
         [
             ("key", &self.key),
             ("schedule", &self.schedule),
@@ -72,6 +81,8 @@ impl Lent {
             ("sheet", &self.sheet),
             ("blank", &self.blank),
             ("offsets", &self.offsets),
+            ("key data", &self.key_data),
+            ("wrapped key", &self.wrapped),
         ]
     }
 
@@ -93,6 +104,8 @@ impl Lent {
             &mut self.sheet,
             &mut self.blank,
             &mut self.offsets,
+            &mut self.key_data,
+            &mut self.wrapped,
         ];
         let which = random.below(buffers.len());
         buffers[which].spoil(random);

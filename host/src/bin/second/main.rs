@@ -1,6 +1,7 @@
 //! The independent second program: `second SEED CASES [SPOILED]` compares every public call of the library with an
-//! implementation of its own, on so many cases drawn from the seed, on every step and every form where there is one, and on all
-//! inputs of the calls that take bytes alone; and it compares blocks with themselves, sealed and opened again.
+//! implementation of its own, on so many cases drawn from the seed, on every step, every form and every length of key data where
+//! there is one, and on all inputs of the calls that take bytes alone; and it compares blocks and keys with themselves, sealed and
+//! opened again.
 //!
 //! It prints for each call how many cases were compared and how many differ, and fails where any does. SPOILED names a call, or
 //! `edges`: what is expected of it is then changed, so that each of its cases must differ.
@@ -23,6 +24,8 @@ mod sheet;
 mod steps;
 mod table;
 mod trips;
+mod wrap;
+mod wraps;
 
 use crate::bytes::BYTE_CALLS;
 use crate::cipher::Boxes;
@@ -52,7 +55,7 @@ fn all(seed: u64, cases: usize, spoiled: &str) -> bool {
     let mut report = Report::start();
     for call in table::calls() {
         let trial = || Trial { call, boxes: &boxes, spoiled: call.name == spoiled, tally: Tally::default() };
-        let (mut drawn, mut every_step, mut every_form) = (trial(), trial(), trial());
+        let [mut drawn, mut every_step, mut every_form, mut every_length] = [(); 4].map(|()| trial());
         compare(&mut drawn, &mut random, cases);
         report.row(call.name, call.method, drawn.tally);
         if steps::compare(&mut every_step, &mut random) {
@@ -61,12 +64,11 @@ fn all(seed: u64, cases: usize, spoiled: &str) -> bool {
         if compare_forms(&mut every_form, &mut random) {
             report.row(call.name, "the same in every form", every_form.tally);
         }
+        if wraps::compare(&mut every_length, &mut random) {
+            report.row(call.name, "every length, offset and bit", every_length.tally);
+        }
     }
-    for opening in &trips::DECRYPTING {
-        let [opened, sealed] = trips::compare(opening, &mut random, &boxes, cases, opening.name == spoiled);
-        report.row(opening.name, "a block that any call sealed", opened);
-        report.row(opening.name, "a block, sealed again by any", sealed);
-    }
+    trips::compare(&mut report, &mut random, &boxes, cases, spoiled);
     for call in BYTE_CALLS {
         let tally = call.compare(&mut random, call.name == spoiled);
         report.row(call.name, call.method, tally);

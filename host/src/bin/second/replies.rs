@@ -1,7 +1,9 @@
 //! The scope's table of replies, with what the requests have added to it, for the calls that are lent buffers: what causes each
 //! number.
 
+use crate::cipher::Boxes;
 use crate::lent::Lent;
+use crate::wrap::{unwrapped, INITIAL};
 
 /// What a call can find wrong. A reply number can have several causes: a sheet is measured twice where it is read, for many
 /// blocks lengths are measured otherwise than for one, and a record has the length of its direction.
@@ -35,11 +37,16 @@ pub enum Cause {
     SheetStep,
     /// A buffer for a sheet that is not as long as the step asks.
     BlankLength,
+    KeyData,
+    /// Not 8 bytes longer than the key data.
+    Wrapped,
+    /// Of a wrapped key whose lengths are right: another register than the initial value.
+    Integrity,
 }
 
 /// The number of the first cause in a call's order that is there, and 0 where none is.
-pub fn reply(order: &[Cause], lent: &Lent) -> u8 {
-    order.iter().find(|cause| cause.is_there(lent)).map_or(0, |cause| cause.number())
+pub fn reply(order: &[Cause], boxes: &Boxes, lent: &Lent) -> u8 {
+    order.iter().find(|cause| cause.is_there(boxes, lent)).map_or(0, |cause| cause.number())
 }
 
 /// Whether a run takes a step.
@@ -50,6 +57,16 @@ pub fn takes_step(step: u8) -> bool {
 /// Whether a call with these refusals takes many blocks.
 pub fn takes_many(order: &[Cause]) -> bool {
     order.contains(&Cause::Blocks)
+}
+
+/// Whether a call with these refusals opens a wrapped key.
+pub fn opens(order: &[Cause]) -> bool {
+    order.contains(&Cause::Integrity)
+}
+
+/// Whether key data may be so long.
+pub fn takes_key_data(length: usize) -> bool {
+    (2..=32).any(|values| length == 8 * values)
 }
 
 /// How long the record is of a call with these refusals.
@@ -77,13 +94,17 @@ impl Cause {
             Cause::Version => 13,
             Cause::OffsetCount => 14,
             Cause::Step | Cause::SheetStep => 15,
+            Cause::KeyData => 16,
+            Cause::Wrapped => 17,
+            Cause::Integrity => 18,
         }
     }
 
-    /// Of a sheet a later cause is looked for only where no earlier one is there.
-    fn is_there(self, lent: &Lent) -> bool {
+    /// Of a sheet or a wrapped key a later cause is looked for only where no earlier one is there.
+    fn is_there(self, boxes: &Boxes, lent: &Lent) -> bool {
         let (input, offsets) = (lent.input.lent(), lent.offsets.lent());
         let (sheet, blank) = (lent.sheet.lent(), lent.blank.lent());
+        let (key_data, wrapped) = (lent.key_data.lent(), lent.wrapped.lent());
         match self {
             Cause::Key => lent.key.lent().len() != 32,
             Cause::Schedule => lent.schedule.lent().len() != 240,
@@ -105,6 +126,9 @@ impl Cause {
             Cause::SheetLength => sheet.len() != if sheet[4] == 1 { 21 } else { 22 },
             Cause::SheetStep => sheet[4] == 2 && matches!(sheet[21], 0..=3 | 16..=255),
             Cause::BlankLength => blank.len() != if lent.step == 1 { 21 } else { 22 },
+            Cause::KeyData => !takes_key_data(key_data.len()),
+            Cause::Wrapped => wrapped.len() != key_data.len() + 8,
+            Cause::Integrity => unwrapped(boxes, lent.schedule.lent(), wrapped).0 != INITIAL,
         }
     }
 }

@@ -49,8 +49,8 @@ fn sheets_written(trial: &mut Trial, random: &mut Random) {
         for masks in MASKS_LENGTHS {
             let mut lent = draw(random, trial.boxes, trial.call.refusals, &[]);
             lent.step = step;
-            lent.blank = any(random, length);
-            lent.masks = any(random, masks);
+            lent.blank = Buffer::any(random, length);
+            lent.masks = Buffer::any(random, masks);
             trial.case(random, lent);
         }
     }
@@ -66,14 +66,9 @@ fn sheets_read(trial: &mut Trial, random: &mut Random) {
                 sheet.truncate(length);
                 let mut lent = draw(random, trial.boxes, trial.call.refusals, &[]);
                 lent.sheet = Buffer::new(random, &sheet);
-                lent.masks = any(random, masks);
+                lent.masks = Buffer::any(random, masks);
                 trial.case(random, lent);
             }
         }
     }
-}
-
-fn any(random: &mut Random, length: usize) -> Buffer {
-    let body = random.bytes(length);
-    Buffer::new(random, &body)
 }

@@ -6,6 +6,7 @@ mod encryption;
 mod plain;
 mod sheets;
 mod stored;
+mod wraps;
 
 use crate::answer::Answer;
 use crate::cipher::{add, record, Boxes, Direction, State};
@@ -23,7 +24,7 @@ pub struct Call {
 }
 
 pub fn calls() -> impl Iterator<Item = &'static Call> {
-    [plain::CALLS, encryption::CALLS, decryption::CALLS, sheets::CALLS, stored::CALLS].into_iter().flatten()
+    [plain::CALLS, encryption::CALLS, decryption::CALLS, sheets::CALLS, stored::CALLS, wraps::CALLS].into_iter().flatten()
 }
 
 fn write(target: &mut Buffer, bytes: &[u8]) -> u8 {

@@ -1,84 +1,125 @@
-//! There and back: each call that decrypts must open what any that encrypts has sealed, and the reverse, each with masks, an
-//! offset and a step of its own.
+//! There and back: each call that decrypts must open what any that encrypts has sealed, and the reverse, and each that unwraps what
+//! any that wraps has wrapped; each with masks, an offset and a step of its own.
 
 use crate::cases::draw;
-use crate::cipher::{Boxes, State};
+use crate::cipher::Boxes;
 use crate::lent::Lent;
 use crate::random::Random;
-use crate::report::Tally;
+use crate::report::{Report, Tally};
 use slipgrease::calls;
 
-/// A call that makes a block of a block under a schedule. Masks, offset and step are those lent, as far as it takes them. Refused,
-/// it gives nothing.
-pub struct Maker {
-    pub name: &'static str,
-    make: fn(&[u8], &State, &Lent) -> Option<State>,
+/// A call that makes bytes of bytes under a schedule. Masks, offset and step are those lent, as far as it takes them. Refused, it
+/// gives nothing.
+struct Maker {
+    name: &'static str,
+    make: Make,
 }
 
+type Make = fn(&[u8], &[u8], &Lent) -> Option<Vec<u8>>;
+
 const ENCRYPTING: [Maker; 5] = [
-    Maker { name: "encrypt", make: |w, block, _| last_of::<16>(|to| calls::encrypt(w, block, to)) },
+    Maker { name: "encrypt", make: |w, block, _| made(16, |to| calls::encrypt(w, block, to)) },
     Maker {
         name: "encrypt_published",
-        make: |w, block, l| last_of::<16>(|to| calls::encrypt_published(w, block, to, l.offset, l.step, 0)),
+        make: |w, block, l| made(16, |to| calls::encrypt_published(w, block, to, l.offset, l.step, 0)),
     },
     Maker {
         name: "encrypt_blocks",
-        make: |w, block, l| last_of::<16>(|to| calls::encrypt_blocks(w, block, to, &[l.offset], l.step, 0)),
+        make: |w, block, l| made(16, |to| calls::encrypt_blocks(w, block, to, &[l.offset], l.step, 0)),
     },
     Maker {
         name: "encrypt_masked",
-        make: |w, block, l| last_of::<16>(|to| calls::encrypt_masked(w, block, to, l.masks.lent(), l.offset, l.step, 0)),
+        make: |w, block, l| made(16, |to| calls::encrypt_masked(w, block, to, l.masks.lent(), l.offset, l.step, 0)),
     },
     Maker {
         name: "record_masked",
-        make: |w, block, l| last_of::<1136>(|to| calls::record_masked(w, block, l.masks.lent(), l.offset, l.step, to)),
+        make: |w, block, l| last_of(made(1136, |to| calls::record_masked(w, block, l.masks.lent(), l.offset, l.step, to))),
     },
 ];
 
-pub const DECRYPTING: [Maker; 4] = [
-    Maker { name: "decrypt", make: |w, block, _| last_of::<16>(|to| calls::decrypt(w, block, to)) },
+const DECRYPTING: [Maker; 4] = [
+    Maker { name: "decrypt", make: |w, block, _| made(16, |to| calls::decrypt(w, block, to)) },
     Maker {
         name: "decrypt_published",
-        make: |w, block, l| last_of::<16>(|to| calls::decrypt_published(w, block, to, l.offset, l.step)),
+        make: |w, block, l| made(16, |to| calls::decrypt_published(w, block, to, l.offset, l.step)),
     },
     Maker {
         name: "decrypt_masked",
-        make: |w, block, l| last_of::<16>(|to| calls::decrypt_masked(w, block, to, l.masks.lent(), l.offset, l.step)),
+        make: |w, block, l| made(16, |to| calls::decrypt_masked(w, block, to, l.masks.lent(), l.offset, l.step)),
     },
     Maker {
         name: "record_masked_decryption",
-        make: |w, block, l| last_of::<1360>(|to| calls::record_masked_decryption(w, block, l.masks.lent(), l.offset, l.step, to)),
+        make: |w, block, l| {
+            last_of(made(1360, |to| calls::record_masked_decryption(w, block, l.masks.lent(), l.offset, l.step, to)))
+        },
     },
 ];
 
-/// The block that a call writes, or the last one where it writes a record.
-fn last_of<const N: usize>(call: impl Fn(&mut [u8]) -> u8) -> Option<State> {
-    let mut written = [0; N];
-    (call(&mut written) == 0).then(|| written[N - 16..].try_into().expect("sixteen bytes"))
+const WRAPPING: [Maker; 2] = [
+    Maker { name: "wrap", make: |w, key, _| made(key.len() + 8, |to| calls::wrap(w, key, to)) },
+    Maker { name: "wrap_masked", make: |w, key, l| made(key.len() + 8, |to| calls::wrap_masked(w, key, to, l.offset)) },
+];
+
+const UNWRAPPING: [Maker; 2] = [
+    Maker { name: "unwrap", make: |w, wrapped, _| made(wrapped.len() - 8, |to| calls::unwrap(w, wrapped, to)) },
+    Maker {
+        name: "unwrap_masked",
+        make: |w, wrapped, l| made(wrapped.len() - 8, |to| calls::unwrap_masked(w, wrapped, to, l.offset)),
+    },
+];
+
+/// What a call writes to so many bytes.
+fn made(length: usize, call: impl Fn(&mut [u8]) -> u8) -> Option<Vec<u8>> {
+    let mut written = vec![0; length];
+    (call(&mut written) == 0).then_some(written)
 }
 
-/// How many blocks come back: first those that are opened after every call in turn has sealed them, then those that are opened
-/// and sealed again by every call in turn. Spoiled expectations must all be found to differ.
-pub fn compare(opening: &Maker, random: &mut Random, boxes: &Boxes, cases: usize, spoiled: bool) -> [Tally; 2] {
-    let (mut opened, mut sealed) = (Tally::default(), Tally::default());
-    for sealing in ENCRYPTING.iter().cycle().take(cases) {
-        for (first, second, tally) in [(sealing, opening, &mut opened), (opening, sealing, &mut sealed)] {
-            let [lent, other] = [(); 2].map(|()| draw(random, boxes, &[], &[]));
-            let (schedule, block) = (lent.schedule.lent(), lent.input.sixteen());
-            let mut expected = block;
-            if spoiled {
-                expected[random.below(16)] ^= 1 << random.below(8);
-            }
-            let back = (first.make)(schedule, &block, &lent).and_then(|there| (second.make)(schedule, &there, &other));
-            let same = back == Some(expected);
-            if !same && !spoiled && tally.differ == 0 {
-                println!(
-                    "{} and then {}, case {}: expected {expected:?}, given {back:?}",
-                    first.name, second.name, tally.compared
-                );
-            }
-            tally.add(same);
+/// The last block of a record.
+fn last_of(record: Option<Vec<u8>>) -> Option<Vec<u8>> {
+    record.map(|states| states[states.len() - 16..].to_vec())
+}
+
+/// A row for each call that opens, and for each that decrypts another row the other way about. Spoiled is the call of which every
+/// case must be found to differ.
+pub fn compare(report: &mut Report, random: &mut Random, boxes: &Boxes, cases: usize, spoiled: &str) {
+    let mut row = |opening: &Maker, what: &str, trips: Vec<(&Maker, &Maker)>, body: fn(&Lent) -> &[u8]| {
+        let mut tally = Tally::default();
+        for trip in trips.iter().cycle().take(cases) {
+            one(&mut tally, random, boxes, trip, body, opening.name == spoiled);
         }
+        report.row(opening.name, what, tally);
+    };
+    for opening in &DECRYPTING {
+        let there_and_back = ENCRYPTING.iter().map(|sealing| (sealing, opening)).collect();
+        let back_and_there = ENCRYPTING.iter().map(|sealing| (opening, sealing)).collect();
+        row(opening, "a block that any call sealed", there_and_back, |l| l.input.lent());
+        row(opening, "a block, sealed again by any", back_and_there, |l| l.input.lent());
     }
-    [opened, sealed]
+    for opening in &UNWRAPPING {
+        let there_and_back = WRAPPING.iter().map(|wrapping| (wrapping, opening)).collect();
+        row(opening, "a key that any call wrapped", there_and_back, |l| l.key_data.lent());
+    }
+}
+
+/// Whether bytes come back from one call and then another.
+fn one(
+    tally: &mut Tally,
+    random: &mut Random,
+    boxes: &Boxes,
+    (first, second): &(&Maker, &Maker),
+    body: fn(&Lent) -> &[u8],
+    spoiled: bool,
+) {
+    let [lent, other] = [(); 2].map(|()| draw(random, boxes, &[], &[]));
+    let (schedule, there) = (lent.schedule.lent(), body(&lent));
+    let mut expected = there.to_vec();
+    if spoiled {
+        expected[random.below(there.len())] ^= 1 << random.below(8);
+    }
+    let back = (first.make)(schedule, there, &lent).and_then(|made| (second.make)(schedule, &made, &other));
+    let same = back.as_ref() == Some(&expected);
+    if !same && !spoiled && tally.differ == 0 {
+        println!("{} and then {}, case {}: expected {expected:?}, given {back:?}", first.name, second.name, tally.compared);
+    }
+    tally.add(same);
 }

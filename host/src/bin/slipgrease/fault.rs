@@ -21,9 +21,13 @@ impl Fault {
         Fault { message: message.into(), status: 2 }
     }
 
-    /// A refusal of the library, sorted by the library.
+    /// A refusal of the library, in its own words.
     pub fn refused(refusal: Refusal, seen: &str) -> Fault {
-        let message = format!("{seen}: {refusal}");
+        Fault::sorted(refusal, format!("{seen}: {refusal}"))
+    }
+
+    /// A refusal of the library in other words, sorted by the library.
+    pub fn sorted(refusal: Refusal, message: String) -> Fault {
         match refusal.fault() {
             Some(slipgrease::Fault::Data) => Fault::data(message),
             _ => Fault::caller(message),

@@ -78,6 +78,40 @@ f3eed1bdb5d2a03c064b5a7e3db181f8
 591ccb10d410ed26dc5ba74a31362870",
     },
     Help {
+        name: "wrap",
+        usage: "wrap [--offset O] KEY DATA",
+        summary: "key data wrapped under a wrapping key, by RFC 3394",
+        text: "\
+Prints the wrapped key of key data, 16 to 256 bytes in a multiple of 8. It is 8 bytes longer. KEY is the wrapping key, which RFC
+3394 calls the key-encryption key, KEK. With an offset from 0 to 15 that the caller chooses the module's engine wraps, with the
+published masks and step 1, and without one the rack's; both give the same. The key data may be broken into several words, as
+arguments or on standard input. --schedule SCHEDULE can stand for the key.",
+        example: "\
+$ slipgrease wrap 000102030405060708090a0b0c0d0e0f101112131415161718191a1b1c1d1e1f 00112233445566778899aabbccddeeff
+64e8c3f9ce0f5ba263e9777905818a2a93c8191e7d6e8ae7",
+    },
+    Help {
+        name: "unwrap",
+        usage: "unwrap [--offset O] KEY WRAPPED",
+        summary: "the key data of a wrapped key",
+        text: "\
+Prints the key data of a wrapped key on one line, so that another command can take it. KEY and offset are as for wrap; the offset
+need not be that at which the key was wrapped. The wrapped key may be broken into several words, as arguments or on standard
+input, and so into the lines of a partner's file. --schedule SCHEDULE can stand for the key.
+
+Beside the key data a register of 8 bytes is recovered. Where it is not a6 eight times, the wrapped key is damaged, or was wrapped
+under another key or with another initial value. That is a data fault: the message says what the register is, and nothing of the
+key data is printed.",
+        example: "\
+$ slipgrease unwrap 000102030405060708090a0b0c0d0e0f101112131415161718191a1b1c1d1e1f \
+28c9f404c4b810f4cbccb35cfb87f8263f5786e2d80ed326cbc7f0e71a99f43bfb988b9b7a02dd21
+00112233445566778899aabbccddeeff000102030405060708090a0b0c0d0e0f
+$ slipgrease unwrap 000102030405060708090a0b0c0d0e0f101112131415161718191a1b1c1d1e1f <partner.txt | slipgrease expand
+00112233445566778899aabbccddeeff
+000102030405060708090a0b0c0d0e0f
+...",
+    },
+    Help {
         name: "convert",
         usage: "convert [STORED OFFSET]",
         summary: "the standard block of one that an early module stored in form 1",
@@ -173,7 +207,7 @@ command is done, 1 for a caller fault and 2 for a data fault; a refusal is told 
 pub fn all() -> String {
     let lines: Vec<String> = HELPS.iter().map(|help| format!("  {:<10}{}\n", help.name, help.summary)).collect();
     format!(
-        "slipgrease COMMAND ..: AES-256 block by block, plain and masked, by a proved library\n\n{}\n\
+        "slipgrease COMMAND ..: AES-256 block by block, plain and masked, and key wrap, by a proved library\n\n{}\n\
          slipgrease COMMAND --help says more, with an example.\n\n{STATUS}",
         lines.concat()
     )

@@ -18,6 +18,7 @@ mod svg;
 mod table;
 mod vectors;
 mod words;
+mod wrap;
 
 use crate::fault::Fault;
 use crate::words::Words;
@@ -46,6 +47,8 @@ const COMMANDS: &[(&str, Command)] = &[
     ("mask", cipher::mask),
     ("unmask", cipher::unmask),
     ("blocks", cipher::blocks),
+    ("wrap", wrap::wrap),
+    ("unwrap", wrap::unwrap),
     ("convert", convert::convert),
     ("record", record::record),
     ("pipe", pipe::pipe),

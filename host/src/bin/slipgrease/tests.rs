@@ -3,6 +3,7 @@
 mod decryption;
 mod steps;
 mod stored;
+mod wrap;
 
 use super::{help, run, COMMANDS};
 use std::fs;
@@ -40,20 +41,36 @@ fn every_command_has_its_help() {
     }
 }
 
-/// An example whose last line is three dots is printed so far, and any other in full. The file of vectors has C.3 alone.
+/// What the last of some commands prints, each of which reads what the one before has printed.
+fn piped(line: &str, input: &str) -> String {
+    line.split(" | slipgrease ").fold(input.to_string(), |input, command| {
+        let (out, failed) = typed(command, &input);
+        assert_eq!(failed, None, "{line}");
+        out
+    })
+}
+
+/// An example whose last line is three dots is printed so far, and any other in full. The file of vectors has C.3 alone, and the
+/// partner's the key of RFC 3394, 4.6.
 #[test]
 fn the_examples_of_the_help_print_what_they_show() {
     let file = std::env::temp_dir().join(format!("slipgrease-example-{}", std::process::id()));
     fs::write(&file, format!("{KEY} {BLOCK} {CIPHERTEXT}\n")).unwrap();
     for (name, _) in COMMANDS {
         let said = help::of(name);
-        let example: Vec<&str> = said.lines().filter_map(|line| line.strip_prefix("    ")).collect();
-        let command = example[0].strip_prefix("$ slipgrease ").unwrap().replace("vectors.txt", &file.to_string_lossy());
-        let shown = example[1..].join("\n") + "\n";
-        let printed = printed(&command);
-        match shown.strip_suffix("...\n") {
-            Some(beginning) => assert!(printed.starts_with(beginning), "{printed}"),
-            None => assert_eq!(printed, shown),
+        let examples: String =
+            said.lines().filter_map(|line| line.strip_prefix("    ")).map(|line| format!("{line}\n")).collect();
+        for example in examples.split("$ slipgrease ").skip(1) {
+            let (command, shown) = example.split_once('\n').unwrap();
+            let command = command.replace("vectors.txt", &file.to_string_lossy());
+            let printed = match command.split_once(" <partner.txt") {
+                Some((first, rest)) => piped(&format!("{first}{rest}"), wrap::PARTNER_FILE),
+                None => printed(&command),
+            };
+            match shown.strip_suffix("...\n") {
+                Some(beginning) => assert!(printed.starts_with(beginning), "{printed}"),
+                None => assert_eq!(printed, shown),
+            }
         }
     }
     fs::remove_file(file).unwrap();

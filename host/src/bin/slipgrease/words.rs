@@ -62,6 +62,10 @@ impl<'a> Words<'a> {
         Fault::caller(format!("{message}; slipgrease {} --help says more", self.command))
     }
 
+    fn missing(&self, what: &str) -> Fault {
+        self.usage(format!("{what} is missing: it is expected as an argument or on standard input"))
+    }
+
     /// The word behind an option, if the option is there.
     pub fn option(&mut self, name: &'static str) -> Result<Option<String>, Fault> {
         let flag = format!("--{name}");
@@ -142,7 +146,7 @@ impl<'a> Words<'a> {
         while self.waiting.is_empty() {
             let mut line = String::new();
             if self.input.read_line(&mut line)? == 0 {
-                return Err(self.usage(format!("{what} is missing: it is expected as an argument or on standard input")));
+                return Err(self.missing(what));
             }
             self.waiting = line.split_whitespace().map(str::to_string).collect();
         }
@@ -174,11 +178,23 @@ impl<'a> Words<'a> {
             let words = self.waiting.drain(..).chain(rest.split_whitespace().map(str::to_string));
             return given(what, "standard input".to_string(), &words.collect::<String>());
         }
+        if self.left.len() == 1 {
+            return self.bytes(what);
+        }
         let mut text = String::new();
         while !self.left.is_empty() {
             text += &self.word(what)?.0;
         }
         given(what, "the last arguments".to_string(), &text)
+    }
+
+    /// The same, and at least one byte.
+    pub fn some_bytes(&mut self, what: &'static str) -> Result<Given, Fault> {
+        let given = self.all_bytes(what)?;
+        match given.bytes.is_empty() {
+            true => Err(self.missing(what)),
+            false => Ok(given),
+        }
     }
 
     /// All that was given must have been used.

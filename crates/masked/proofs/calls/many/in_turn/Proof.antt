@@ -14,7 +14,7 @@ use Rattle.masks.specs.Mask.{published, maskedBoxes, compensation, constants, i
 use Rattle.runs.specs.Run.{maskedCipher}
 use Rattle.masked.specs.Calls.{inTurn}
 use Rattle.masks.proofs.Row.{one-more, ended, row-size, row-lent}
-use Rattle.masked.proofs.Batch.{masked-size}
+use Rattle.masked.proofs.Sizes.{masked-size}
 use Rattle.masked.proofs.calls.many.in_turn.Statement.{statement}
 use Rattle.masked.proofs.calls.many.in_turn.Tie as tie
 

@@ -1,0 +1,4 @@
+pub mod Done
+pub mod Sizes
+pub mod Checked
+pub mod Unique

@@ -1,0 +1,68 @@
+/*
+ * Every set of causes for which a call refuses.
+ */
+#include "expect.h"
+
+/* The ways in which a buffer is wrong: it is none at all, one byte too short, and one too long. */
+enum way { NO_BUFFER, TOO_SHORT, TOO_LONG, WAYS };
+
+/* The buffer that a refusal is about, if it is about one. */
+static struct buffer *about(struct lent *lent, uint8_t refusal)
+{
+    switch (refusal) {
+    case SLIPGREASE_REPLY_SCHEDULE_LENGTH:
+        return &lent->schedule;
+    case SLIPGREASE_REPLY_INPUT_LENGTH:
+        return &lent->input;
+    case SLIPGREASE_REPLY_OUTPUT_LENGTH:
+        return &lent->output;
+    case SLIPGREASE_REPLY_MASKS_LENGTH:
+        return &lent->masks;
+    case SLIPGREASE_REPLY_RECORD_LENGTH:
+        return &lent->record;
+    case SLIPGREASE_REPLY_KEY_DATA_LENGTH:
+        return &lent->key_data;
+    case SLIPGREASE_REPLY_WRAPPED_LENGTH:
+        return &lent->wrapped;
+    default:
+        return NULL;
+    }
+}
+
+static void spoil(struct lent *lent, uint8_t refusal, enum way way)
+{
+    static const uint8_t offsets[WAYS] = {255, 17, 16}, steps[WAYS] = {0, 3, 16}, damaged[WAYS] = {0, 7, 23};
+    struct buffer *buffer = about(lent, refusal);
+    if (refusal == SLIPGREASE_REPLY_OFFSET_RANGE)
+        lent->offset = offsets[way];
+    else if (refusal == SLIPGREASE_REPLY_STEP_WRONG)
+        lent->step = steps[way];
+    else if (refusal == SLIPGREASE_REPLY_INTEGRITY)
+        lent->wrapped.bytes[damaged[way]] ^= 1;
+    else if (way == NO_BUFFER)
+        *buffer = (struct buffer){NONE};
+    else if (way == TOO_SHORT)
+        buffer->length--;
+    else
+        buffer->length++;
+}
+
+void refusals(const struct call *call, struct lent (*right)(void), unsigned (*written)(void))
+{
+    size_t count = 0;
+    while (call->refusals[count])
+        count++;
+    for (unsigned set = 1; set < 1u << count; set++)
+        for (enum way way = NO_BUFFER; way < WAYS; way++) {
+            struct lent lent = right();
+            uint8_t first = 0;
+            /* Backwards: what is damaged is still there, and the first cause is left. */
+            for (size_t i = count; i-- > 0;)
+                if (set >> i & 1) {
+                    first = call->refusals[i];
+                    spoil(&lent, first, way);
+                }
+            number(call->name, call->answer(&lent), first);
+            number(call->name, written(), 0);
+        }
+}
