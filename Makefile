@@ -2,7 +2,8 @@
 # library in build/, make install puts it under PREFIX with its header and its pkg-config file, and make uninstall removes them;
 # make bench measures it beside C and other libraries, which make bench-deps installs; make worked shows worked examples by a proved
 # program; make soak compares the library with the second program for so many MINUTES, or without end; make peers compares it with
-# other implementations, which make peers-deps installs, on COUNT cases of each size from a SEED.
+# other implementations, which make peers-deps installs, on COUNT cases of each size from a SEED, and has others read a stream that
+# ffmpeg makes.
 .PHONY: run test lib install uninstall bench bench-deps worked soak peers peers-deps
 
 PREFIX = /usr/local

@@ -124,8 +124,10 @@ int check_engines(const struct vectors *vectors)
             first += check_many(vectors, first, engine);
         check_appendix(vectors, engine);
         check_wraps(vectors, engine);
+        check_packets(vectors, engine);
     }
     compare_engines();
     compare_wraps();
+    compare_packets();
     return faults() == 0;
 }

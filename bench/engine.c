@@ -21,8 +21,11 @@ const char *const call_names[MEASURED] = {
     "unwrap",
     "wrap_masked",
     "unwrap_masked",
+    "scramble",
+    "descramble",
     "encrypt_published, step 5",
     "decrypt_published, step 5",
+    "scramble, unlisted",
 };
 
 const struct engine library = {
@@ -42,6 +45,8 @@ const struct engine library = {
     slipgrease_unwrap,
     slipgrease_wrap_masked,
     slipgrease_unwrap_masked,
+    slipgrease_scramble,
+    slipgrease_descramble,
 };
 
 const struct engine translation = {
@@ -61,6 +66,8 @@ const struct engine translation = {
     translated_unwrap,
     translated_wrap_masked,
     translated_unwrap_masked,
+    translated_scramble,
+    translated_descramble,
 };
 
 const uint8_t published_masks[MASK_BYTES] = {

@@ -3,14 +3,20 @@
 #ifndef ENGINE_H
 #define ENGINE_H
 
+#include <stdbool.h>
 #include <stddef.h>
 #include <stdint.h>
 
 enum { KEY_BYTES = 32, SCHEDULE_BYTES = 240, BLOCK_BYTES = 16, MASK_BYTES = 16, MOST_BLOCKS = 256 };
 enum { RECORD_BYTES = 1136, DECRYPTION_RECORD_BYTES = 1360 };
 enum { LEAST_KEY_DATA = 16, MOST_KEY_DATA = 256, WRAP_EXTRA = 8 };
+enum { PACKET_BYTES = 188, HEADER_BYTES = 4, PIPES = 7, PIPE_BYTES = 498, PIPES_BYTES = PIPES * PIPE_BYTES };
 
-// After the calls come two of them once more, with another step than 1, which makes them work out their boxes.
+// Where the parts of a pipe begin behind its PID.
+enum { EVEN_AT = 2, ODD_AT = EVEN_AT + SCHEDULE_BYTES, START_AT = ODD_AT + SCHEDULE_BYTES };
+
+// After the calls come three of them once more: two with another step than 1, which makes them work out their boxes, and one on a
+// packet whose PID is not listed.
 enum call {
     EXPAND_KEY,
     ENCRYPT,
@@ -27,9 +33,12 @@ enum call {
     UNWRAP,
     WRAP_MASKED,
     UNWRAP_MASKED,
+    SCRAMBLE,
+    DESCRAMBLE,
     CALLS,
     ENCRYPT_PUBLISHED_STEP_5 = CALLS,
     DECRYPT_PUBLISHED_STEP_5,
+    SCRAMBLE_UNLISTED,
     MEASURED,
 };
 
@@ -71,6 +80,10 @@ struct engine {
                            uint8_t *wrapped, size_t wrapped_length, uint8_t offset);
     uint8_t (*unwrap_masked)(const uint8_t *schedule, size_t schedule_length, const uint8_t *wrapped, size_t wrapped_length,
                              uint8_t *key_data, size_t key_data_length, uint8_t offset);
+    uint8_t (*scramble)(const uint8_t *packet, size_t packet_length, uint8_t *packet_out, size_t packet_out_length,
+                        const uint8_t *pipes, size_t pipes_length, bool odd);
+    uint8_t (*descramble)(const uint8_t *packet, size_t packet_length, uint8_t *packet_out, size_t packet_out_length,
+                          const uint8_t *pipes, size_t pipes_length);
 };
 
 extern const struct engine library, translation;

@@ -26,8 +26,9 @@ int faults(void);
 void draw(uint8_t *bytes, size_t length);
 
 // Holds the translation to the library on other inputs than the vectors, at all offsets, with all steps and where a call refuses:
-// the calls of blocks, and those of key wrap.
+// the calls of blocks, those of key wrap, and those of packets.
 void compare_engines(void);
 void compare_wraps(void);
+void compare_packets(void);
 
 #endif

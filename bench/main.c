@@ -6,15 +6,20 @@
 //                            for each call and maker: call, name, nanoseconds in the fastest batch, and by how many per cent the
 //                            middle one lay above it
 //   repeat ID TIMES..        makes each call that a maker has, in their order, so many times, for whoever counts instructions
+//   calls CALL PIPES STREAM TIMES
+//                            makes the call for each packet of a stream, so many times over
+//   desk CALL PIPES STREAM TOOL OUT
+//                            times that beside the desk tool, which writes to OUT; a line for each, as above
+// CALL is scramble, even, or descramble, and PIPES the desk tool's file of pipes.
 // Fields of a line are separated by tabs.
-#define _POSIX_C_SOURCE 199309L
 #include <stdio.h>
 #include <stdlib.h>
 #include <string.h>
-#include <time.h>
 
 #include "check.h"
+#include "clock.h"
 #include "maker.h"
+#include "stream.h"
 
 // Batches are shorter than a time slice, so that of many some are not interrupted.
 enum { BATCHES = 40 };
@@ -33,11 +38,9 @@ static int check(const char *path)
 
 static double nanoseconds(const struct maker *maker, enum call call, long times)
 {
-    struct timespec begin, end;
-    clock_gettime(CLOCK_MONOTONIC, &begin);
+    double begin = now();
     repeat(maker, call, times);
-    clock_gettime(CLOCK_MONOTONIC, &end);
-    return (double)(end.tv_sec - begin.tv_sec) * 1e9 + (double)(end.tv_nsec - begin.tv_nsec);
+    return now() - begin;
 }
 
 // How many calls make a batch: it takes one to two milliseconds.
@@ -47,12 +50,6 @@ static long calls_in_a_batch(const struct maker *maker, enum call call)
     while (nanoseconds(maker, call, times) < BATCH_NANOSECONDS)
         times *= 2;
     return times;
-}
-
-static int rising(const void *a, const void *b)
-{
-    double x = *(const double *)a, y = *(const double *)b;
-    return (x > y) - (x < y);
 }
 
 static int named(const struct maker *maker, char **ids, int count)
@@ -88,9 +85,8 @@ static int time_all(char **ids, int id_count)
             double *sorted = taken[call][i];
             if (times[call][i] == 0)
                 continue;
-            qsort(sorted, BATCHES, sizeof *sorted, rising);
-            printf("%s\t%s\t%.1f\t%.1f\n", call_names[call], maker_name(&makers[i]), sorted[0],
-                   100 * (sorted[BATCHES / 2] - sorted[0]) / sorted[0]);
+            double spread = spread_of(sorted, BATCHES);
+            printf("%s\t%s\t%.1f\t%.1f\n", call_names[call], maker_name(&makers[i]), sorted[0], spread);
         }
     return 0;
 }
@@ -130,6 +126,12 @@ static int repeat_calls(const char *id, char **times, int call_count)
     return 0;
 }
 
+// The words from CALL to STREAM.
+static struct stream stream_of(char **words)
+{
+    return (struct stream){strcmp(words[0], "scramble") == 0 ? SCRAMBLE : DESCRAMBLE, words[1], words[2]};
+}
+
 int main(int count, char **words)
 {
     if (count == 3 && strcmp(words[1], "check") == 0)
@@ -140,6 +142,12 @@ int main(int count, char **words)
         return list();
     if (count >= 3 && strcmp(words[1], "repeat") == 0)
         return repeat_calls(words[2], words + 3, count - 3);
-    fputs("usage: check VECTORS | list | time VECTORS [ID..] | repeat ID TIMES..\n", stderr);
+    if (count == 6 && strcmp(words[1], "calls") == 0)
+        return repeat_stream(stream_of(words + 2), strtol(words[5], NULL, 10));
+    if (count == 7 && strcmp(words[1], "desk") == 0)
+        return time_stream(stream_of(words + 2), words[5], words[6]);
+    fputs("usage: check VECTORS | list | time VECTORS [ID..] | repeat ID TIMES.. |\n"
+          "    calls CALL PIPES STREAM TIMES | desk CALL PIPES STREAM TOOL OUT\n",
+          stderr);
     return 2;
 }

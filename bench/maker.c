@@ -37,21 +37,45 @@ const char *maker_name(const struct maker *maker)
 
 int has_call(const struct maker *maker, enum call call)
 {
-    if (maker->engine != NULL)
-        return 1;
-    return call <= DECRYPT ? maker->peer->encrypt != NULL : (call == WRAP || call == UNWRAP) && maker->peer->wrap != NULL;
+    const struct peer *peer = maker->peer;
+    if (peer == NULL || call <= DECRYPT)
+        return peer == NULL || peer->encrypt != NULL;
+    if (call == WRAP || call == UNWRAP)
+        return peer->wrap != NULL;
+    return (call == SCRAMBLE || call == DESCRAMBLE) && peer->chain != NULL;
 }
 
-enum { KEY_DATA = 32 };
+enum { KEY_DATA = 32, ELEVEN_BLOCKS = 11 * BLOCK_BYTES };
 
 static struct {
     uint8_t key[KEY_BYTES], schedule[SCHEDULE_BYTES], plain[BLOCK_BYTES], cipher[BLOCK_BYTES], output[BLOCK_BYTES];
     uint8_t states[RECORD_BYTES], decryption_states[DECRYPTION_RECORD_BYTES];
     uint8_t blocks[BLOCK_BYTES * MOST_BLOCKS], outputs[BLOCK_BYTES * MOST_BLOCKS], offsets[MOST_BLOCKS];
     uint8_t key_data[KEY_DATA], wrapped[KEY_DATA + WRAP_EXTRA], unwrapped[KEY_DATA], rewrapped[KEY_DATA + WRAP_EXTRA];
+    uint8_t pipes[PIPES_BYTES], packet[PACKET_BYTES], scrambled[PACKET_BYTES], unlisted[PACKET_BYTES], made[PACKET_BYTES];
 } work;
 
+static const uint8_t *const starting_block = work.pipes + PIPES_BYTES - PIPE_BYTES + START_AT;
+
 enum { OFFSET = 5, STEP = 1, OTHER_STEP = 5, FORM = 0 };
+
+// Pipes 0010 to 0016 under one key, and packets of 0016 and 0017, all payload.
+static void start_packets(void)
+{
+    for (size_t k = 0; k < PIPES; k++) {
+        uint8_t *pipe = work.pipes + PIPE_BYTES * k;
+        pipe[1] = (uint8_t)(0x10 + k);
+        memcpy(pipe + EVEN_AT, work.schedule, SCHEDULE_BYTES);
+        memcpy(pipe + ODD_AT, work.schedule, SCHEDULE_BYTES);
+        memcpy(pipe + START_AT, work.cipher, BLOCK_BYTES);
+    }
+    memcpy(work.packet, (uint8_t[]){0x47, 0x00, 0x16, 0x10}, HEADER_BYTES);
+    for (size_t i = HEADER_BYTES; i < PACKET_BYTES; i++)
+        work.packet[i] = (uint8_t)i;
+    memcpy(work.unlisted, work.packet, PACKET_BYTES);
+    work.unlisted[2] = 0x17;
+    library.scramble(work.packet, PACKET_BYTES, work.scrambled, PACKET_BYTES, work.pipes, PIPES_BYTES, false);
+}
 
 void start(const struct maker *maker)
 {
@@ -68,6 +92,7 @@ void start(const struct maker *maker)
     memcpy(work.key_data, work.plain, BLOCK_BYTES);
     memcpy(work.key_data + BLOCK_BYTES, work.key, KEY_DATA - BLOCK_BYTES);
     library.wrap(work.schedule, SCHEDULE_BYTES, work.key_data, KEY_DATA, work.wrapped, sizeof work.wrapped);
+    start_packets();
     translated_prepare();
     if (maker->peer != NULL)
         maker->peer->start(work.key);
@@ -147,6 +172,18 @@ static void repeat_engine(const struct engine *e, enum call call, long times)
         while (times-- > 0)
             e->unwrap_masked(work.schedule, SCHEDULE_BYTES, work.wrapped, sizeof work.wrapped, work.unwrapped, KEY_DATA, OFFSET);
         break;
+    case SCRAMBLE:
+        while (times-- > 0)
+            e->scramble(work.packet, PACKET_BYTES, work.made, PACKET_BYTES, work.pipes, PIPES_BYTES, false);
+        break;
+    case DESCRAMBLE:
+        while (times-- > 0)
+            e->descramble(work.scrambled, PACKET_BYTES, work.made, PACKET_BYTES, work.pipes, PIPES_BYTES);
+        break;
+    case SCRAMBLE_UNLISTED:
+        while (times-- > 0)
+            e->scramble(work.unlisted, PACKET_BYTES, work.made, PACKET_BYTES, work.pipes, PIPES_BYTES, false);
+        break;
     default:
         while (times-- > 0)
             e->record_masked_decryption(work.schedule, SCHEDULE_BYTES, work.cipher, BLOCK_BYTES, published_masks, MASK_BYTES,
@@ -173,9 +210,17 @@ static void repeat_peer(const struct peer *peer, enum call call, long times)
         while (times-- > 0)
             peer->wrap(work.key_data, work.rewrapped);
         break;
-    default:
+    case UNWRAP:
         while (times-- > 0)
             peer->unwrap(work.wrapped, work.unwrapped);
+        break;
+    case SCRAMBLE:
+        while (times-- > 0)
+            peer->chain(starting_block, work.packet + HEADER_BYTES, ELEVEN_BLOCKS, work.made + HEADER_BYTES);
+        break;
+    default:
+        while (times-- > 0)
+            peer->unchain(starting_block, work.scrambled + HEADER_BYTES, ELEVEN_BLOCKS, work.made + HEADER_BYTES);
     }
 }
 
@@ -210,12 +255,23 @@ static int right_wraps(const struct peer *peer, const struct vectors *vectors)
     return memcmp(there, wrapped, sizeof there) == 0 && memcmp(back, data, sizeof back) == 0;
 }
 
+static int right_chains(const struct peer *peer, const struct vectors *vectors)
+{
+    uint8_t there[CHAIN] = {0}, back[CHAIN] = {0};
+    peer->start(vectors->chain.key);
+    peer->chain(vectors->chain.start, vectors->chain.plain, CHAIN, there);
+    peer->unchain(vectors->chain.start, vectors->chain.cipher, CHAIN, back);
+    return memcmp(there, vectors->chain.cipher, CHAIN) == 0 && memcmp(back, vectors->chain.plain, CHAIN) == 0;
+}
+
 // Where a peer is wrong, if it is.
 static const char *wrong_at(const struct peer *peer, const struct vectors *vectors)
 {
     if (peer->encrypt != NULL && !right_blocks(peer, vectors))
         return "FIPS 197 C.3";
-    return peer->wrap != NULL && !right_wraps(peer, vectors) ? "RFC 3394 4.6" : NULL;
+    if (peer->wrap != NULL && !right_wraps(peer, vectors))
+        return "RFC 3394 4.6";
+    return peer->chain != NULL && !right_chains(peer, vectors) ? "SP 800-38A F.2.5" : NULL;
 }
 
 int check_peers(const struct vectors *vectors)

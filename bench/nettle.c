@@ -1,6 +1,7 @@
 // nettle as a peer. As Debian builds it, it takes AES-NI where the processor has it, else tables; NETTLE_FAT_OVERRIDE in the
 // environment names the features that it may use.
 #include <nettle/aes.h>
+#include <nettle/cbc.h>
 #include <nettle/nist-keywrap.h>
 #include <nettle/version.h>
 
@@ -54,4 +55,21 @@ static void unwrap(const uint8_t wrapped[40], uint8_t key_data[32])
     aes256_keyunwrap(&decrypting, initial, 32, key_data, wrapped);
 }
 
-const struct peer nettle_peers[] = {{"nettle", name, start, expand_key, encrypt, decrypt, wrap, unwrap}, {0}};
+static void chain(const uint8_t begin[16], const uint8_t *input, size_t length, uint8_t *output)
+{
+    uint8_t last[16];
+    memcpy(last, begin, 16);
+    cbc_aes256_encrypt(&encrypting, last, length, output, input);
+}
+
+static void unchain(const uint8_t begin[16], const uint8_t *input, size_t length, uint8_t *output)
+{
+    uint8_t last[16];
+    memcpy(last, begin, 16);
+    cbc_decrypt(&decrypting, (nettle_cipher_func *)aes256_decrypt, 16, last, length, output, input);
+}
+
+const struct peer nettle_peers[] = {
+    {"nettle", name, start, expand_key, encrypt, decrypt, wrap, unwrap, chain, unchain},
+    {0},
+};

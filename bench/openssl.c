@@ -1,6 +1,7 @@
-// OpenSSL as a peer: by EVP, one block in ECB without padding, and by AES_encrypt and its like, which are deprecated and take no
-// AES-NI. EVP takes AES-NI where the processor has it, else vpaes where it has SSSE3, else AES_encrypt, which looks up S alone;
-// OPENSSL_ia32cap in the environment can hide either from it. EVP's key wrap takes AES_encrypt always, so it is a peer by itself.
+// OpenSSL as a peer: by EVP, one block in ECB and many in CBC without padding, and by AES_encrypt and its like, which are deprecated
+// and take no AES-NI. EVP takes AES-NI where the processor has it, else vpaes where it has SSSE3, and for eight blocks at once of CBC
+// decrypted bsaes, else AES_encrypt, which looks up S alone; OPENSSL_ia32cap in the environment can hide either from it. EVP's key
+// wrap takes AES_encrypt always, so it is a peer by itself.
 #define OPENSSL_SUPPRESS_DEPRECATED
 #include <openssl/aes.h>
 #include <openssl/crypto.h>
@@ -12,7 +13,7 @@
 
 #include "peer.h"
 
-static EVP_CIPHER_CTX *forwards, *backwards, *wrapping, *unwrapping;
+static EVP_CIPHER_CTX *forwards, *backwards, *chaining, *unchaining, *wrapping, *unwrapping;
 static AES_KEY encrypting, decrypting;
 
 static void stop_unless(int done)
@@ -30,7 +31,7 @@ static const char *evp_name(void)
     const char *settings = OPENSSL_info(OPENSSL_INFO_CPU_SETTINGS);
     const char *value = settings == NULL ? NULL : strchr(settings, '=');
     unsigned long long features = value == NULL ? 0 : strtoull(value + 1, NULL, 16);
-    const char *way = features >> 57 & 1 ? "AES-NI" : features >> 41 & 1 ? "vpaes" : "S alone";
+    const char *way = features >> 57 & 1 ? "AES-NI" : features >> 41 & 1 ? "SSSE3" : "S alone";
     snprintf(name, sizeof name, "OpenSSL %s EVP, %s", OpenSSL_version(OPENSSL_VERSION_STRING), way);
     return name;
 }
@@ -52,7 +53,9 @@ static void evp_contexts(const char *cipher_name, const uint8_t key[32], EVP_CIP
 static void evp_start(const uint8_t key[32])
 {
     evp_contexts("AES-256-ECB", key, &forwards, &backwards);
-    stop_unless(EVP_CIPHER_CTX_set_padding(forwards, 0) && EVP_CIPHER_CTX_set_padding(backwards, 0));
+    evp_contexts("AES-256-CBC", key, &chaining, &unchaining);
+    stop_unless(EVP_CIPHER_CTX_set_padding(forwards, 0) && EVP_CIPHER_CTX_set_padding(backwards, 0) &&
+                EVP_CIPHER_CTX_set_padding(chaining, 0) && EVP_CIPHER_CTX_set_padding(unchaining, 0));
 }
 
 static void evp_expand_key(const uint8_t key[32])
@@ -70,6 +73,20 @@ static void evp_decrypt(const uint8_t input[16], uint8_t output[16])
 {
     int length;
     stop_unless(EVP_DecryptUpdate(backwards, output, &length, input, 16));
+}
+
+static void evp_chain(const uint8_t start[16], const uint8_t *input, size_t length, uint8_t *output)
+{
+    int written;
+    stop_unless(EVP_EncryptInit_ex2(chaining, NULL, NULL, start, NULL) &&
+                EVP_EncryptUpdate(chaining, output, &written, input, (int)length));
+}
+
+static void evp_unchain(const uint8_t start[16], const uint8_t *input, size_t length, uint8_t *output)
+{
+    int written;
+    stop_unless(EVP_DecryptInit_ex2(unchaining, NULL, NULL, start, NULL) &&
+                EVP_DecryptUpdate(unchaining, output, &written, input, (int)length));
 }
 
 static const char *evp_wrap_name(void)
@@ -134,9 +151,23 @@ static void aes_unwrap(const uint8_t wrapped[40], uint8_t key_data[32])
     stop_unless(AES_unwrap_key(&decrypting, NULL, key_data, wrapped, 40) == 32);
 }
 
+static void aes_chain(const uint8_t start[16], const uint8_t *input, size_t length, uint8_t *output)
+{
+    uint8_t last[16];
+    memcpy(last, start, 16);
+    AES_cbc_encrypt(input, output, length, &encrypting, last, AES_ENCRYPT);
+}
+
+static void aes_unchain(const uint8_t start[16], const uint8_t *input, size_t length, uint8_t *output)
+{
+    uint8_t last[16];
+    memcpy(last, start, 16);
+    AES_cbc_encrypt(input, output, length, &decrypting, last, AES_DECRYPT);
+}
+
 const struct peer openssl_peers[] = {
-    {"openssl-evp", evp_name, evp_start, evp_expand_key, evp_encrypt, evp_decrypt, NULL, NULL},
-    {"openssl-evp-wrap", evp_wrap_name, evp_wrap_start, NULL, NULL, NULL, evp_wrap, evp_unwrap},
-    {"openssl-aes", aes_name, aes_start, aes_expand_key, aes_encrypt, aes_decrypt, aes_wrap, aes_unwrap},
+    {"openssl-evp", evp_name, evp_start, evp_expand_key, evp_encrypt, evp_decrypt, NULL, NULL, evp_chain, evp_unchain},
+    {"openssl-evp-wrap", evp_wrap_name, evp_wrap_start, NULL, NULL, NULL, evp_wrap, evp_unwrap, NULL, NULL},
+    {"openssl-aes", aes_name, aes_start, aes_expand_key, aes_encrypt, aes_decrypt, aes_wrap, aes_unwrap, aes_chain, aes_unchain},
     {0},
 };

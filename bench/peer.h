@@ -1,7 +1,8 @@
-// Other libraries that are timed beside ours where they are installed: AES-256, a key or a block at a time, and key wrap.
+// Other libraries that are timed beside ours where they are installed: AES-256, a key or a block at a time, key wrap and CBC.
 #ifndef PEER_H
 #define PEER_H
 
+#include <stddef.h>
 #include <stdint.h>
 
 struct peer {
@@ -11,7 +12,7 @@ struct peer {
     const char *(*name)(void);
     // Expands the key for both directions.
     void (*start)(const uint8_t key[32]);
-    // Of these three and of the two below either all are there or none, which is NULL.
+    // Of these three, and of the two and two below, either all are there or none, which is NULL.
     // Expands the key for encryption alone: this is what is timed as expand_key.
     void (*expand_key)(const uint8_t key[32]);
     void (*encrypt)(const uint8_t input[16], uint8_t output[16]);
@@ -19,6 +20,9 @@ struct peer {
     // Key wrap of 32 bytes, and back.
     void (*wrap)(const uint8_t key_data[32], uint8_t wrapped[40]);
     void (*unwrap)(const uint8_t wrapped[40], uint8_t key_data[32]);
+    // CBC over whole blocks from a starting block on, and back.
+    void (*chain)(const uint8_t start[16], const uint8_t *input, size_t length, uint8_t *output);
+    void (*unchain)(const uint8_t start[16], const uint8_t *input, size_t length, uint8_t *output);
 };
 
 // Lists, each ended by a peer without an id.

@@ -58,7 +58,7 @@ function group(call, y,   i, k, name, width) {
         text(scale - 9, y, name == ours ? "strong" : "", "end",
             name == ours ? "Slipgrease" : name == c ? "the same steps in C" : name)
         text(scale + width + 7, y, name == ours ? "value strong" : "value", "start", grouped(count[call, name]))
-        if (name != ours) text(scale + 4.9 * decade, y, "value", "end", sprintf("%.2f", count[call, ours] / count[call, name]))
+        if (name != ours) text(ratios, y, "value", "end", sprintf("%.2f", count[call, ours] / count[call, name]))
     }
     return y + gap
 }
@@ -76,7 +76,7 @@ BEGIN {
 !seen[$1]++ { call[++calls] = $1 }
 
 END {
-    width = 1300; left = 44; unit = 250; right = 664; scale = 910; decade = 70; top = 182; row = 18; gap = 38
+    width = 1300; left = 44; unit = 250; right = 664; scale = 910; decade = 60; ratios = 1253; top = 182; row = 18; gap = 38
     end = top
     for (i = 1; i <= calls; i++)
         if (makers[call[i]] > 2 || i <= 3) {
@@ -103,9 +103,9 @@ END {
     print "line.met { stroke: #1a7f37 } line.missed { stroke: #cf222e }"
     print "</style>"
     bar(0, 0, width, height, "paper")
-    text(left, 44, "title", "start", "Slipgrease: instructions for one key, one block or one step of a key wrap")
+    text(left, 44, "title", "start", "Slipgrease: instructions for a key, a block, a step of a key wrap or a packet")
     text(left, 69, "under", "start",
-        "AES-256, one key or block a call, 256 in encrypt_blocks, 24 steps in key wrap; tables and checks included; shorter is better")
+        "AES-256, one key or block a call, 256 in encrypt_blocks, 24 steps in key wrap, eleven blocks in a packet; shorter is better")
     for (i = 1; i <= makers["encrypt"]; i++) {
         n = count["encrypt", maker["encrypt", i]]
         if (kind(maker["encrypt", i]) == "aesni" && (least == "" || n < least)) least = n
@@ -133,7 +133,7 @@ END {
     legend(right + 105, 142, "c", "C")
     legend(right + 150, 142, "other", "without AES-NI")
     legend(right + 285, 142, "aesni", "with AES-NI")
-    text(scale + 4.9 * decade, 142, "axis", "end", "ours / it")
+    text(ratios, 142, "axis", "end", "ours / it")
     for (i = 1; i <= 5; i++) {
         line(scale + decade * (i - 1), top - 20, scale + decade * (i - 1), end, "grid")
         text(scale + decade * (i - 1), end + 17, "axis", "middle", grouped(10 ^ i))

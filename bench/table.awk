@@ -1,7 +1,8 @@
-# Prints the benchmark's table of what was timed and counted: awk -v many=CALL -v stepwise=TEXT -f table.awk kind=times FILE
-# kind=off FILE kind=counts FILE. Lines of times are call, name, nanoseconds and spread in per cent; `off` are those where AES-NI
-# was hidden, with the library timed again beside them; counts are call, name and instructions. `many` is the call under whose name
-# one block of many stands, and `stepwise` what is behind the name of a call of which one step stands there.
+# Prints the benchmark's table of what was timed and counted: awk -v many=CALL -v stepwise=TEXT -v packets=COUNT -f table.awk
+# kind=times FILE kind=off FILE kind=counts FILE kind=desk FILE kind=desk-counts FILE. Lines of times are call, name, nanoseconds
+# and spread in per cent; `off` are those where AES-NI was hidden, with the library timed again beside them; counts are call, name
+# and instructions. `desk` are times of the desk tool and of the calls on a stream of so many packets. `many` is the call under
+# whose name one block of many stands, and `stepwise` what is behind the name of a call of which one step stands there.
 function grouped(number,   text) {
     if (number == "") return "-"
     text = number
@@ -15,10 +16,22 @@ function percent(number) { return number == "" ? "-" : sprintf("%.0f %%", number
 function target(text, bound, instructions, others,   verdict) {
     verdict = instructions <= bound * others ? "met" : "missed"
     if (instructions == "" || others == "") verdict = "not counted"
-    printf "%-60s at most %5s  %6s  %s\n", text, others == 1 ? grouped(bound) : bound,
+    printf "%-60s at most %6s  %6s  %s\n", text, others == 1 ? grouped(bound) : bound,
         others == 1 ? grouped(instructions) : ratio(instructions, others), verdict
 }
-BEGIN { FS = "\t"; ours = "the library"; c = "the C translation" }
+function heads(one, other) {
+    printf "%-30s %19s %31s\n", "", "nanoseconds", "instructions"
+    printf "%-30s %8s %8s %6s %7s %9s %9s %6s\n", "call", one, other, "ratio", "spread", one, other, "ratio"
+}
+function row(n, one, other) {
+    printf "%-30s %8s %8s %6s %7s %9s %9s %6s\n", n, nanoseconds(time[n, one]), nanoseconds(time[n, other]),
+        ratio(time[n, one], time[n, other]), percent(greater(spread[n, one], spread[n, other])),
+        grouped(count[n, one]), grouped(count[n, other]), ratio(count[n, one], count[n, other])
+}
+BEGIN { FS = "\t"; ours = "the library"; c = "the C translation"; tool = "the desk tool"; through = "the calls" }
+
+kind == "desk" { time[$1, $2] = $3; spread[$1, $2] = $4; next }
+kind == "desk-counts" { count[$1, $2] = $3; next }
 
 kind == "counts" { count[$1, $2] = $3; if (!(($1, $2) in time)) time[$1, $2] = "" }
 kind == "times" || kind == "off" {
@@ -33,15 +46,17 @@ kind == "times" || kind == "off" {
 END {
     print "Beside the same steps in C"
     print ""
-    printf "%-30s %19s %31s\n", "", "nanoseconds", "instructions"
-    printf "%-30s %8s %8s %6s %7s %9s %9s %6s\n", "call", "ours", "C", "ratio", "spread", "ours", "C", "ratio"
-    for (i = 1; i <= calls; i++) {
-        n = call[i]
-        printf "%-30s %8s %8s %6s %7s %9s %9s %6s\n", n, nanoseconds(time[n, ours]), nanoseconds(time[n, c]),
-            ratio(time[n, ours], time[n, c]), percent(greater(spread[n, ours], spread[n, c])),
-            grouped(count[n, ours]), grouped(count[n, c]), ratio(count[n, ours], count[n, c])
-    }
+    heads("ours", "C")
+    for (i = 1; i <= calls; i++) row(call[i], ours, c)
     print ""
+    if (("scramble", tool) in time) {
+        print "The desk tool from file to file, beside the calls alone: a packet of a stream of " grouped(packets)
+        print ""
+        heads("tool", "calls")
+        row("scramble", tool, through)
+        row("descramble", tool, through)
+        print ""
+    }
     print "Targets, by instructions"
     print ""
     published = "encrypt_published"; back = "decrypt_published"
@@ -54,6 +69,11 @@ END {
     target("unwrap" stepwise ", instructions", 3150, count["unwrap" stepwise, ours], 1)
     target("wrap_masked" stepwise ", beside " published, "1.05", count["wrap_masked" stepwise, ours], count[published, ours])
     target("unwrap_masked" stepwise ", beside " back, "1.05", count["unwrap_masked" stepwise, ours], count[back, ours])
+    target("scramble, eleven blocks, instructions", 25500, count["scramble", ours], 1)
+    target("descramble, eleven blocks, instructions", 35000, count["descramble", ours], 1)
+    target("scramble, unlisted, instructions", 1200, count["scramble, unlisted", ours], 1)
+    target("scramble by the desk tool, beside the calls", "1.3", count["scramble", tool], count["scramble", through])
+    target("descramble by the desk tool, beside the calls", "1.3", count["descramble", tool], count["descramble", through])
     if (!left) exit
     print ""
     print "Beside other libraries"

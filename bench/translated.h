@@ -3,6 +3,7 @@
 #ifndef TRANSLATED_H
 #define TRANSLATED_H
 
+#include <stdbool.h>
 #include <stddef.h>
 #include <stdint.h>
 
@@ -21,6 +22,11 @@ enum reply {
     KEY_DATA_LENGTH = 16,
     WRAPPED_LENGTH = 17,
     INTEGRITY = 18,
+    PACKET_LENGTH = 19,
+    SYNC_LOST = 20,
+    FIELD_WRONG = 21,
+    PIPES_WRONG = 22,
+    BITS_WRONG = 23,
 };
 
 uint8_t translated_expand_key(const uint8_t *key, size_t key_length, uint8_t *schedule, size_t schedule_length);
@@ -75,5 +81,11 @@ uint8_t translated_wrap_masked(const uint8_t *schedule, size_t schedule_length, 
 
 uint8_t translated_unwrap_masked(const uint8_t *schedule, size_t schedule_length, const uint8_t *wrapped, size_t wrapped_length,
                                  uint8_t *key_data, size_t key_data_length, uint8_t offset);
+
+uint8_t translated_scramble(const uint8_t *packet, size_t packet_length, uint8_t *packet_out, size_t packet_out_length,
+                            const uint8_t *pipes, size_t pipes_length, bool odd);
+
+uint8_t translated_descramble(const uint8_t *packet, size_t packet_length, uint8_t *packet_out, size_t packet_out_length,
+                              const uint8_t *pipes, size_t pipes_length);
 
 #endif

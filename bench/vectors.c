@@ -7,7 +7,7 @@
 
 enum { LINE = 1024, POINTS = RECORD_BYTES / BLOCK_BYTES };
 
-static int read_hex(const char *text, uint8_t *bytes, size_t length)
+int read_hex(const char *text, uint8_t *bytes, size_t length)
 {
     if (text == NULL || strlen(text) != 2 * length || strspn(text, "0123456789abcdef") != 2 * length)
         return 0;
@@ -58,6 +58,16 @@ static void read_wraps(struct vectors *vectors)
     }
 }
 
+static void read_chain(struct vectors *vectors)
+{
+    read_hex("603deb1015ca71be2b73aef0857d77811f352c073b6108d72d9810a30914dff4", vectors->chain.key, KEY_BYTES);
+    read_hex("000102030405060708090a0b0c0d0e0f", vectors->chain.start, BLOCK_BYTES);
+    read_hex("6bc1bee22e409f96e93d7e117393172aae2d8a571e03ac9c9eb76fac45af8e51"
+             "30c81c46a35ce411e5fbc1191a0a52eff69f2445df4f9b17ad2b417be66c3710", vectors->chain.plain, CHAIN);
+    read_hex("f58c4c04d6e5f1ba779eabfb5f7bfbd69cfc4e967edb808d679f777bc6702c7d"
+             "39f23369a9d9bacfa530e26304231461b2eb05e2c39be9fcda6c19078c6a9d1b", vectors->chain.cipher, CHAIN);
+}
+
 int read_vectors(const char *path, struct vectors *vectors)
 {
     char line[LINE], section[LINE] = "";
@@ -68,6 +78,7 @@ int read_vectors(const char *path, struct vectors *vectors)
         return 0;
     }
     read_wraps(vectors);
+    read_chain(vectors);
     while (fgets(line, LINE, file) != NULL) {
         int read = 1;
         number++;

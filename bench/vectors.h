@@ -4,7 +4,7 @@
 
 #include "engine.h"
 
-enum { BLOCKS = 520, WRAPS = 3, LONGEST_WRAP = 40 };
+enum { BLOCKS = 520, WRAPS = 3, LONGEST_WRAP = 40, CHAIN = 64 };
 
 struct vectors {
     // NIST's, the first of them FIPS 197 C.3.
@@ -20,10 +20,17 @@ struct vectors {
         uint8_t data[LONGEST_WRAP], wrapped[LONGEST_WRAP];
         size_t length;
     } wrap[WRAPS];
+    // SP 800-38A F.2.5, CBC-AES256: four blocks.
+    struct {
+        uint8_t key[KEY_BYTES], start[BLOCK_BYTES], plain[CHAIN], cipher[CHAIN];
+    } chain;
 };
 
-// Reads the sections `ecb`, `key expansion` and `rounds` of a file like crates/vectors/stdin; the wraps are known without it. Gives
-// 0, and says on standard error what is wrong, where a line cannot be read or one is missing.
+// Reads so many bytes of hex digits; gives 0 where there are others.
+int read_hex(const char *text, uint8_t *bytes, size_t length);
+
+// Reads the sections `ecb`, `key expansion` and `rounds` of a file like crates/vectors/stdin; the wraps and the chain are known
+// without it. Gives 0, and says on standard error what is wrong, where a line cannot be read or one is missing.
 int read_vectors(const char *path, struct vectors *vectors);
 
 #endif

@@ -1,6 +1,7 @@
 /*
- * Slipgrease: AES-256 by a plain engine, for the rack, and by a masked engine, for the module, and key wrap over either. All is in
- * one archive, libslipgrease.a, of code that is proved to do what is said here. This header is the manual of its C names.
+ * Slipgrease: AES-256 by a plain engine, for the rack, and by a masked engine, for the module; key wrap over either, and a packet
+ * scrambler over the plain one. All is in one archive, libslipgrease.a, of code that is proved to do what is said here. This header
+ * is the manual of its C names.
  *
  *     cc pipe.c $(pkg-config --cflags --libs slipgrease)
  *
@@ -12,8 +13,8 @@
  * What the caller guarantees
  *   A buffer is two arguments: a pointer, and its length in bytes. So many bytes are there and may be read; where the pointer's
  *   name ends in _out, they may be written. What an _out buffer holds before the call does not matter.
- *   A buffer that is written shares no byte with another buffer of the same call, so nothing is encrypted or wrapped in place.
- *   The same buffer may be lent twice for reading.
+ *   A buffer that is written shares no byte with another buffer of the same call, so nothing is encrypted, wrapped or scrambled in
+ *   place. The same buffer may be lent twice for reading.
  *   Until the call returns, no other thread writes a buffer that it was lent, or reads its _out buffer. No call keeps
  *   anything for the next one, so threads may call at the same time.
  *   Nothing else is asked. Every length, alignment, content and number is allowed, and has its answer.
@@ -31,12 +32,13 @@
  *
  * What is not claimed
  *   Nothing about power, time, caches or any other side of a running machine. Nothing is wiped: a call leaves its working values
- *   on the stack, and so does an unwrapping that is refused. Key wrap is the one mode of operation here. There is no other key
- *   length, and no offset is drawn: that is the caller's.
+ *   on the stack, and so does an unwrapping that is refused. Key wrap and CBC within a packet are the modes of operation here.
+ *   There is no other key length, and no offset is drawn: that is the caller's.
  */
 #ifndef SLIPGREASE_H
 #define SLIPGREASE_H
 
+#include <stdbool.h>
 #include <stddef.h>
 #include <stdint.h>
 
@@ -69,6 +71,11 @@ extern "C" {
 #define SLIPGREASE_REPLY_KEY_DATA_LENGTH 16 /* the key data, or the buffer for it, is not 16 to 256 bytes in a multiple of 8 */
 #define SLIPGREASE_REPLY_WRAPPED_LENGTH 17  /* the wrapped key data, or the buffer for it, is not 8 bytes longer than that */
 #define SLIPGREASE_REPLY_INTEGRITY 18       /* the register that unwrapping recovers is not a6a6a6a6a6a6a6a6 */
+#define SLIPGREASE_REPLY_PACKET_LENGTH 19   /* the packet, or the buffer for it, is not 188 bytes */
+#define SLIPGREASE_REPLY_SYNC_LOST 20       /* the packet does not begin with 47 */
+#define SLIPGREASE_REPLY_FIELD_WRONG 21     /* the adaptation code is 00, or the length of the field does not fit the code */
+#define SLIPGREASE_REPLY_PIPES_WRONG 22     /* the list is not 3,486 bytes, or has a PID outside 0010 to 1ffe or one twice */
+#define SLIPGREASE_REPLY_BITS_WRONG 23      /* the scrambling bits do not allow what is to be done */
 
 /* The lengths that the calls take. */
 #define SLIPGREASE_KEY_BYTES 32
@@ -88,6 +95,10 @@ extern "C" {
 #define SLIPGREASE_KEY_DATA_MAX 256
 #define SLIPGREASE_KEY_DATA_UNIT 8
 #define SLIPGREASE_WRAP_EXTRA 8
+#define SLIPGREASE_PACKET_BYTES 188
+#define SLIPGREASE_PIPES 7
+#define SLIPGREASE_PIPE_BYTES 498
+#define SLIPGREASE_PIPES_BYTES 3486
 
 /* A record is so many states of a block's size, and that of a decryption so many. */
 #define SLIPGREASE_STATES 71
@@ -348,6 +359,53 @@ uint8_t slipgrease_unwrap_masked(
     uint8_t *key_data_out, size_t key_data_len,
     uint8_t offset);
 
+/* ---- Packets of the multiplex, for the rack ---- */
+
+/*
+ * A transport packet of ISO/IEC 13818-1 has 188 bytes:
+ *     0        47, the sync byte
+ *     1, 2     the PID in the lower 13 bits, the higher byte first; the upper three bits play no part
+ *     3        the scrambling bits (c0), the adaptation code (30), and a counter, which plays no part
+ *     4 ..     under code 01 the payload; under 11 the length of the adaptation field, the field, and then the payload; under 10
+ *              the length, which is then 183, and the field alone
+ *
+ * The list of pipes has SLIPGREASE_PIPES entries of SLIPGREASE_PIPE_BYTES each, which hold from their beginning on:
+ *     0        the PID, two bytes, the higher first: 0010 to 1ffe, and none twice
+ *     2        the even schedule, as slipgrease_expand_key writes it
+ *     242      the odd schedule
+ *     482      the starting block, 16 bytes
+ *
+ * Scrambling is CBC (NIST SP 800-38A, 6.2) over the whole 16-byte blocks of the payload, which begins anew with the starting block
+ * in each packet; a rest under 16 bytes stays clear. Only these blocks and the scrambling bits change. For a packet of a listed
+ * pipe, no other pipe's schedules or starting block play a part.
+ */
+
+/*
+ * Scrambles a packet of a listed PID with that pipe's even schedule, or with its odd one where odd is true, and sets the scrambling
+ * bits to 10, or to 11. A packet whose payload is under 16 bytes, or that has none, is copied, and so is every packet of a PID that
+ * is not listed. FIELD_WRONG and BITS_WRONG are for a listed PID only: the adaptation code is 00, or the length of the field is not
+ * 183 under code 10, or above 182 under code 11; the scrambling bits are not 00.
+ * Reads packet, 188 bytes, and pipes, 3,486 bytes. Writes packet_out, 188 bytes.
+ * Refusals: 19 PACKET_LENGTH, 20 SYNC_LOST, 22 PIPES_WRONG, 21 FIELD_WRONG, 23 BITS_WRONG.
+ */
+uint8_t slipgrease_scramble(
+    const uint8_t *packet, size_t packet_len,
+    uint8_t *packet_out, size_t packet_out_len,
+    const uint8_t *pipes, size_t pipes_len,
+    bool odd);
+
+/*
+ * Descrambles a packet of a listed PID, with the schedule that the scrambling bits name, and sets them to 00. A packet whose bits
+ * are 00 is copied, and so is every packet of a PID that is not listed. So it gives back every packet that slipgrease_scramble
+ * took. FIELD_WRONG is as there; BITS_WRONG is for bits 01, and for 10 or 11 over a payload under 16 bytes, or over none.
+ * Reads packet, 188 bytes, and pipes, 3,486 bytes. Writes packet_out, 188 bytes.
+ * Refusals: 19 PACKET_LENGTH, 20 SYNC_LOST, 22 PIPES_WRONG, 21 FIELD_WRONG, 23 BITS_WRONG.
+ */
+uint8_t slipgrease_descramble(
+    const uint8_t *packet, size_t packet_len,
+    uint8_t *packet_out, size_t packet_out_len,
+    const uint8_t *pipes, size_t pipes_len);
+
 /* ---- Beside the engines ---- */
 
 /*
@@ -401,8 +459,8 @@ uint16_t slipgrease_power(uint8_t n);
 uint8_t slipgrease_masked_inverse(uint8_t x, uint8_t r);
 
 /*
- * Sorts a reply: SLIPGREASE_GO_ON for 0, SLIPGREASE_CALLER_FAULT for 1 to 8, SLIPGREASE_DATA_FAULT for 9 to 13 and for 18, and
- * SLIPGREASE_CALLER_FAULT for every other number above 13.
+ * Sorts a reply: SLIPGREASE_GO_ON for 0, SLIPGREASE_CALLER_FAULT for 1 to 8, SLIPGREASE_DATA_FAULT for 9 to 13, 18, 20, 21
+ * and 23, and SLIPGREASE_CALLER_FAULT for every other number above 13.
  * Refusals: none.
  */
 uint8_t slipgrease_sort_reply(uint8_t number);

@@ -32,6 +32,9 @@ macro_rules! call {
     ($c_name:ident -> $answer:ty, ($($own:tt)*) ($($given:tt)*) $number:ident: u8 $(, $($rest:tt)*)?) => {
         call!($c_name -> $answer, ($($own)* _: u8,) ($($given)* $number,) $($($rest)*)?)
     };
+    ($c_name:ident -> $answer:ty, ($($own:tt)*) ($($given:tt)*) $yes:ident: bool $(, $($rest:tt)*)?) => {
+        call!($c_name -> $answer, ($($own)* _: bool,) ($($given)* $yes,) $($($rest)*)?)
+    };
 }
 
 calls! {
@@ -68,6 +71,8 @@ calls! {
     slipgrease_unwrap as unwrap(schedule: &[u8], wrapped: &[u8], key_data: &mut [u8]) -> u8;
     slipgrease_wrap_masked as wrap_masked(schedule: &[u8], key_data: &[u8], wrapped: &mut [u8], offset: u8) -> u8;
     slipgrease_unwrap_masked as unwrap_masked(schedule: &[u8], wrapped: &[u8], key_data: &mut [u8], offset: u8) -> u8;
+    slipgrease_scramble as scramble(packet: &[u8], packet_out: &mut [u8], pipes: &[u8], odd: bool) -> u8;
+    slipgrease_descramble as descramble(packet: &[u8], packet_out: &mut [u8], pipes: &[u8]) -> u8;
     slipgrease_multiply as multiply(a: u8, b: u8) -> u8;
     slipgrease_inverse as inverse(x: u8) -> u8;
     slipgrease_logarithm as logarithm(x: u8) -> u16;

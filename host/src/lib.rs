@@ -1,12 +1,14 @@
-//! AES-256 block by block, plain and masked, and key wrap over it, by a library in which every call is proved to meet its promise.
+//! AES-256 block by block, plain and masked, and key wrap and a packet scrambler over it, by a library in which every call is
+//! proved to meet its promise.
 //!
 //! The library is `libslipgrease.a`, written in Rattle; this crate is its face for Rust. Whatever a call is lent, it ends, and
-//! gives the one answer that its promise names: wrong lengths, offsets, steps and forms are refused, and so is a damaged wrapped
-//! key, each with its own [`Refusal`], in a fixed order, and a refused call has written nothing.
+//! gives the one answer that its promise names: wrong lengths, offsets, steps, forms and lists of pipes are refused, and so are
+//! a damaged wrapped key and a faulty packet, each with its own [`Refusal`], in a fixed order, and a refused call has written
+//! nothing.
 //!
 //! There are two ways to call it. The functions of this page take slices of any length and hand them on as they are. The types
-//! [`Schedule`], [`Masks`], [`Offset`] and [`Step`] hold only what the library takes, so that their calls cannot be refused, except
-//! for those that wrap keys, whose lengths vary:
+//! [`Schedule`], [`Masks`], [`Offset`], [`Step`] and [`Pipes`] hold only what the library takes, so that their calls cannot be
+//! refused, except for those that wrap keys, whose lengths vary, and those over packets, which are as they come:
 //!
 //! ```
 //! use slipgrease::{Offset, Schedule, Step};
@@ -27,6 +29,9 @@
 //! }
 //! ```
 //!
+//! [`Pipes`] scrambles and descrambles transport packets of 188 bytes for seven pipes, one by one, or as a stream that comes in
+//! pieces of any length: [`Stream`] gives each packet to a function, and [`PacketWriter`] writes them.
+//!
 //! What is proved is the code behind the C names. This crate adds no cipher of its own: a file of declarations, `calls.rs`, which
 //! alone has `unsafe`, and types around it. No claim is made about power or time. No offset is drawn here: every one comes from
 //! the caller.
@@ -36,6 +41,7 @@
 #[allow(unsafe_code)]
 pub mod calls;
 mod masks;
+mod packets;
 mod record;
 mod refusal;
 mod schedule;
@@ -43,11 +49,12 @@ mod slices;
 mod wrap;
 
 pub use crate::masks::{Masks, Offset, Step};
+pub use crate::packets::{Packet, PacketWriter, Parity, Pipe, Pipes, RefusedPacket, Stream, Way};
 pub use crate::record::{Direction, Point, Record, Stage};
 pub use crate::refusal::{sort_reply, Fault, Refusal};
 pub use crate::schedule::{Block, Schedule};
 pub use crate::slices::{
-    convert, decrypt, decrypt_masked, decrypt_published, encrypt, encrypt_blocks, encrypt_masked, encrypt_published, expand_key,
-    fitness, inverse, logarithm, masked_inverse, multiply, power, read_sheet, record_masked, record_masked_decryption,
-    record_plain, unwrap, unwrap_masked, wrap, wrap_masked, write_sheet,
+    convert, decrypt, decrypt_masked, decrypt_published, descramble, encrypt, encrypt_blocks, encrypt_masked, encrypt_published,
+    expand_key, fitness, inverse, logarithm, masked_inverse, multiply, power, read_sheet, record_masked,
+    record_masked_decryption, record_plain, scramble, unwrap, unwrap_masked, wrap, wrap_masked, write_sheet,
 };

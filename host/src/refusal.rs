@@ -53,10 +53,20 @@ pub enum Refusal {
     WrappedLength = 17,
     /// The register that unwrapping recovers is not a6 eight times: the wrapped key is damaged, or was wrapped under another key.
     Integrity = 18,
+    /// The packet, or the buffer for it, is not 188 bytes long.
+    PacketLength = 19,
+    /// The packet does not begin with 47.
+    SyncLost = 20,
+    /// The packet's adaptation code is 00, or the length of its adaptation field does not fit the code.
+    FieldWrong = 21,
+    /// The list of pipes is not 3,486 bytes long, or has a PID outside 0010 to 1ffe or one twice.
+    PipesWrong = 22,
+    /// The packet's scrambling bits: not 00 in scrambling; in descrambling 01, or set over a payload that is too short for it.
+    BitsWrong = 23,
 }
 
 /// The name and the meaning of each, in the order of their numbers.
-const REFUSALS: [(Refusal, &str, &str); 18] = [
+const REFUSALS: [(Refusal, &str, &str); 23] = [
     (Refusal::KeyLength, "KEY_LENGTH", "the key is not 32 bytes long"),
     (Refusal::ScheduleLength, "SCHEDULE_LENGTH", "the schedule is not 240 bytes long"),
     (Refusal::InputLength, "INPUT_LENGTH", "the input is not 16 bytes long; of many blocks, not 16 for each of 256 at most"),
@@ -75,6 +85,11 @@ const REFUSALS: [(Refusal, &str, &str); 18] = [
     (Refusal::KeyDataLength, "KEY_DATA_LENGTH", "the key data is not 16 to 256 bytes long in a multiple of 8"),
     (Refusal::WrappedLength, "WRAPPED_LENGTH", "the wrapped key is not 8 bytes longer than the key data"),
     (Refusal::Integrity, "INTEGRITY", "the register that unwrapping recovers is not a6a6a6a6a6a6a6a6"),
+    (Refusal::PacketLength, "PACKET_LENGTH", "the packet is not 188 bytes long"),
+    (Refusal::SyncLost, "SYNC_LOST", "the packet does not begin with 47"),
+    (Refusal::FieldWrong, "FIELD_WRONG", "the adaptation code is 00, or the length of the field does not fit the code"),
+    (Refusal::PipesWrong, "PIPES_WRONG", "the list is not 3,486 bytes long, or has a PID outside 0010 to 1ffe or one twice"),
+    (Refusal::BitsWrong, "BITS_WRONG", "the scrambling bits do not allow what is to be done"),
 ];
 
 impl Refusal {
@@ -89,7 +104,7 @@ impl Refusal {
         REFUSALS.iter().map(|row| row.0).find(|refusal| refusal.number() == number)
     }
 
-    /// The reply number, 1 to 18.
+    /// The reply number, 1 to 23.
     pub fn number(self) -> u8 {
         self as u8
     }
@@ -148,7 +163,7 @@ pub enum Fault {
 /// assert_eq!(sort_reply(8), Some(Fault::Caller));
 /// assert_eq!(sort_reply(9), Some(Fault::Data));
 /// assert_eq!(sort_reply(17), Some(Fault::Caller));
-/// assert_eq!(sort_reply(18), Some(Fault::Data));
+/// assert_eq!(sort_reply(20), Some(Fault::Data));
 /// ```
 pub fn sort_reply(number: u8) -> Option<Fault> {
     match calls::sort_reply(number) {

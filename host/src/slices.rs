@@ -3,9 +3,11 @@
 //! Buffers that are written share no byte with others, which Rust sees to.
 
 mod masked;
+mod packets;
 mod wrap;
 
 pub use masked::*;
+pub use packets::*;
 pub use wrap::*;
 
 use crate::calls;

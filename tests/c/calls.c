@@ -1,7 +1,7 @@
 /*
  * Every call of the header as a C compiler makes it, with answers of FIPS 197 and of the rules of the masks, and a null pointer
  * of length 0 in the place of each buffer. How the calls answer in general is for the proofs and the second program. Masked
- * decryption is in decryption.c, and key wrap in wrap.c.
+ * decryption is in decryption.c, key wrap in wrap.c, and packets are in packets.c.
  *
  * Usage: calls [NAME]. What is expected of the call NAME, which goes without slipgrease_, is spoiled: it must be found to differ.
  * Prints a line for each difference, and fails if there is any.
@@ -229,7 +229,12 @@ static void beside(void)
     CALL(sort_reply, SLIPGREASE_CALLER_FAULT, SLIPGREASE_REPLY_KEY_DATA_LENGTH);
     CALL(sort_reply, SLIPGREASE_CALLER_FAULT, SLIPGREASE_REPLY_WRAPPED_LENGTH);
     CALL(sort_reply, SLIPGREASE_DATA_FAULT, SLIPGREASE_REPLY_INTEGRITY);
-    CALL(sort_reply, SLIPGREASE_CALLER_FAULT, SLIPGREASE_REPLY_INTEGRITY + 1);
+    CALL(sort_reply, SLIPGREASE_CALLER_FAULT, SLIPGREASE_REPLY_PACKET_LENGTH);
+    CALL(sort_reply, SLIPGREASE_DATA_FAULT, SLIPGREASE_REPLY_SYNC_LOST);
+    CALL(sort_reply, SLIPGREASE_DATA_FAULT, SLIPGREASE_REPLY_FIELD_WRONG);
+    CALL(sort_reply, SLIPGREASE_CALLER_FAULT, SLIPGREASE_REPLY_PIPES_WRONG);
+    CALL(sort_reply, SLIPGREASE_DATA_FAULT, SLIPGREASE_REPLY_BITS_WRONG);
+    CALL(sort_reply, SLIPGREASE_CALLER_FAULT, SLIPGREASE_REPLY_BITS_WRONG + 1);
 }
 
 int main(int count, char **words)
@@ -241,6 +246,7 @@ int main(int count, char **words)
     steps();
     decryption();
     key_wrap();
+    packets();
     forms();
     sheets();
     beside();

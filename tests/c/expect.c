@@ -22,17 +22,35 @@ void packed(const char *call, uint16_t given, unsigned reply, unsigned value)
     number(call, SLIPGREASE_VALUE(given), value);
 }
 
+/* The longest bytes that are compared are key data. */
+enum { DIGITS = 2 * SLIPGREASE_KEY_DATA_MAX };
+
+static void write_digits(char digits[DIGITS + 1], const uint8_t *from, size_t length)
+{
+    for (size_t i = 0; i < length; i++) {
+        digits[2 * i] = "0123456789abcdef"[from[i] >> 4];
+        digits[2 * i + 1] = "0123456789abcdef"[from[i] & 15];
+    }
+    digits[2 * length] = 0;
+}
+
 void bytes(const char *call, const uint8_t *given, const char *expected)
 {
-    char digits[2 * SLIPGREASE_KEY_DATA_MAX + 1] = "";
-    for (size_t i = 0; i < strlen(expected) / 2; i++)
-        sprintf(digits + 2 * i, "%02x", given[i]);
+    char digits[DIGITS + 1];
+    write_digits(digits, given, strlen(expected) / 2);
     if (strcmp(call, spoiled) == 0)
         expected = "spoiled";
     if (strcmp(digits, expected) != 0) {
         printf("%s: %s, and should be %s\n", call, digits, expected);
         faults = 1;
     }
+}
+
+void alike(const char *call, const uint8_t *given, const uint8_t *expected, size_t length)
+{
+    char digits[DIGITS + 1];
+    write_digits(digits, expected, length);
+    bytes(call, given, digits);
 }
 
 void under(const char *call, const uint8_t *given, size_t label, const char *expected)

@@ -19,8 +19,10 @@ extern int faults;
 void number(const char *call, unsigned given, unsigned expected);
 void packed(const char *call, uint16_t given, unsigned reply, unsigned value);
 
-/* Bytes that should have these hex digits; and sixteen under Mask(label), which uncovered should have them. */
+/* Bytes that should have these hex digits; bytes that should be these; and sixteen under Mask(label), which uncovered should have
+   the digits. */
 void bytes(const char *call, const uint8_t *given, const char *expected);
+void alike(const char *call, const uint8_t *given, const uint8_t *expected, size_t length);
 void under(const char *call, const uint8_t *given, size_t label, const char *expected);
 
 /* Writes the bytes that have these hex digits, and gives how many they are. */
@@ -42,8 +44,9 @@ struct buffer {
 
 /* What calls are lent; each takes its own part of it. */
 struct lent {
-    struct buffer schedule, input, output, masks, record, key_data, wrapped;
+    struct buffer schedule, input, output, masks, record, key_data, wrapped, packet, packet_out, pipes;
     uint8_t offset, step;
+    bool odd;
 };
 
 /* A buffer as it is handed over. */
@@ -66,6 +69,7 @@ struct call {
    cause, and `written` how many bytes that the call could have written are touched. */
 void refusals(const struct call *call, struct lent (*right)(void), unsigned (*written)(void));
 
-/* In decryption.c: the calls of masked decryption. In wrap.c: those of key wrap. */
+/* In decryption.c: the calls of masked decryption. In wrap.c: those of key wrap. In packets.c: those of packets. */
 void decryption(void);
 void key_wrap(void);
+void packets(void);

@@ -24,14 +24,35 @@ static struct buffer *about(struct lent *lent, uint8_t refusal)
         return &lent->key_data;
     case SLIPGREASE_REPLY_WRAPPED_LENGTH:
         return &lent->wrapped;
+    case SLIPGREASE_REPLY_PACKET_LENGTH:
+        return &lent->packet;
+    case SLIPGREASE_REPLY_PIPES_WRONG:
+        return &lent->pipes;
     default:
         return NULL;
     }
 }
 
+/* Packets that both ways refuse: code 00, and fields that do not fit their code; bits 01, and others over 15 bytes and over none.
+   The field comes second, and leaves the bits. */
+static void spoil_field(uint8_t *packet, enum way way)
+{
+    static const uint8_t codes[WAYS] = {0x00, 0x20, 0x30}, lengths[WAYS] = {0, 182, 183};
+    packet[3] = (uint8_t)((packet[3] & 0xc0) | codes[way]);
+    packet[4] = lengths[way];
+}
+
+static void spoil_bits(uint8_t *packet, enum way way)
+{
+    static const uint8_t bits[WAYS] = {0x50, 0xb0, 0xe0}, lengths[WAYS] = {0, 168, 183};
+    packet[3] = bits[way];
+    packet[4] = lengths[way];
+}
+
 static void spoil(struct lent *lent, uint8_t refusal, enum way way)
 {
     static const uint8_t offsets[WAYS] = {255, 17, 16}, steps[WAYS] = {0, 3, 16}, damaged[WAYS] = {0, 7, 23};
+    static const uint8_t syncs[WAYS] = {0x00, 0x46, 0xc7};
     struct buffer *buffer = about(lent, refusal);
     if (refusal == SLIPGREASE_REPLY_OFFSET_RANGE)
         lent->offset = offsets[way];
@@ -39,6 +60,12 @@ static void spoil(struct lent *lent, uint8_t refusal, enum way way)
         lent->step = steps[way];
     else if (refusal == SLIPGREASE_REPLY_INTEGRITY)
         lent->wrapped.bytes[damaged[way]] ^= 1;
+    else if (refusal == SLIPGREASE_REPLY_SYNC_LOST)
+        lent->packet.bytes[0] = syncs[way];
+    else if (refusal == SLIPGREASE_REPLY_FIELD_WRONG)
+        spoil_field(lent->packet.bytes, way);
+    else if (refusal == SLIPGREASE_REPLY_BITS_WRONG)
+        spoil_bits(lent->packet.bytes, way);
     else if (way == NO_BUFFER)
         *buffer = (struct buffer){NONE};
     else if (way == TOO_SHORT)

@@ -5,6 +5,10 @@
  *
  * wrap, key wrap: KEY DATA WRAPPED, with key data of every length; then for each byte of what is wrapped KEY - DAMAGED, in which
  * one bit of that byte is changed.
+ *
+ * packet, the packet scrambler: PIPES, which is PID, even key, odd key and starting block of each pipe; and for each adaptation
+ * code and all scrambling bits PACKET EVEN ODD CLEAR, with this list and a field of one length: what scrambling in either parity
+ * and descrambling make of the packet, or as one byte the reply that refuses it. Every length of a field is a size.
  */
 #include <slipgrease.h>
 
@@ -132,11 +136,128 @@ static void make_wraps(unsigned long count)
     printf("# %lu wraps, %lu damaged\n", whole, damaged);
 }
 
+enum outcome { CHANGED, COPIED, REFUSED, OUTCOMES };
+
+/* The list of pipes with their keys, as it is printed, and with their schedules. */
+struct pipes {
+    struct {
+        uint8_t pid[2], even[SLIPGREASE_KEY_BYTES], odd[SLIPGREASE_KEY_BYTES], start[SLIPGREASE_BLOCK_BYTES];
+    } keys[SLIPGREASE_PIPES];
+    uint8_t list[SLIPGREASE_PIPES_BYTES];
+};
+
+enum { EVEN_AT = 2, ODD_AT = EVEN_AT + SLIPGREASE_SCHEDULE_BYTES, START_AT = ODD_AT + SLIPGREASE_SCHEDULE_BYTES };
+
+static void draw_pipes(struct pipes *pipes)
+{
+    fill((uint8_t *)pipes->keys, sizeof pipes->keys);
+    for (unsigned k = 0; k < SLIPGREASE_PIPES; k++) {
+        uint8_t *pipe = pipes->list + SLIPGREASE_PIPE_BYTES * k;
+        /* Different ones, since each leaves another rest by the number of pipes. */
+        unsigned pid = 0x0010 + (unsigned)(draw() << 8 | draw()) % 1167 * SLIPGREASE_PIPES + k;
+        pipes->keys[k].pid[0] = (uint8_t)(pid >> 8);
+        pipes->keys[k].pid[1] = (uint8_t)pid;
+        memcpy(pipe, pipes->keys[k].pid, 2);
+        slipgrease_expand_key(pipes->keys[k].even, SLIPGREASE_KEY_BYTES, pipe + EVEN_AT, SLIPGREASE_SCHEDULE_BYTES);
+        slipgrease_expand_key(pipes->keys[k].odd, SLIPGREASE_KEY_BYTES, pipe + ODD_AT, SLIPGREASE_SCHEDULE_BYTES);
+        memcpy(pipe + START_AT, pipes->keys[k].start, SLIPGREASE_BLOCK_BYTES);
+    }
+}
+
+/* Mostly of a listed PID. Only code 01 has no length behind it. */
+static void draw_packet(const struct pipes *pipes, uint8_t *packet, unsigned code, unsigned length, unsigned bits)
+{
+    fill(packet, SLIPGREASE_PACKET_BYTES);
+    packet[0] = 0x47;
+    if (draw() % 8 != 0) {
+        const uint8_t *pid = pipes->keys[draw() % SLIPGREASE_PIPES].pid;
+        packet[1] = (uint8_t)((packet[1] & 0xe0) | pid[0]);
+        packet[2] = pid[1];
+    }
+    packet[3] = (uint8_t)(bits << 6 | code << 4 | (packet[3] & 0x0f));
+    if (code != 1)
+        packet[4] = (uint8_t)length;
+}
+
+static void stop_packet_unless(int holds, const char *what, const uint8_t *packet)
+{
+    if (holds)
+        return;
+    fprintf(stderr, "packet %02x%02x%02x%02x%02x..: %s\n", packet[0], packet[1], packet[2], packet[3], packet[4], what);
+    exit(1);
+}
+
+enum way { SCRAMBLED_EVEN, SCRAMBLED_ODD, DESCRAMBLED, WAYS };
+
+static uint8_t send(enum way way, const uint8_t *list, const uint8_t *packet, uint8_t *out)
+{
+    if (way == DESCRAMBLED)
+        return slipgrease_descramble(packet, SLIPGREASE_PACKET_BYTES, out, SLIPGREASE_PACKET_BYTES, list, SLIPGREASE_PIPES_BYTES);
+    return slipgrease_scramble(
+        packet, SLIPGREASE_PACKET_BYTES, out, SLIPGREASE_PACKET_BYTES, list, SLIPGREASE_PIPES_BYTES, way == SCRAMBLED_ODD);
+}
+
+/* The same list, with all that pipes of other PIDs have behind them inverted. */
+static void invert_others(const struct pipes *pipes, const uint8_t *packet, uint8_t *list)
+{
+    memcpy(list, pipes->list, SLIPGREASE_PIPES_BYTES);
+    for (unsigned k = 0; k < SLIPGREASE_PIPES; k++) {
+        uint8_t *pipe = list + SLIPGREASE_PIPE_BYTES * k;
+        for (unsigned i = EVEN_AT; i < SLIPGREASE_PIPE_BYTES; i++)
+            if (pipe[0] != (packet[1] & 0x1f) || pipe[1] != packet[2])
+                pipe[i] ^= 0xff;
+    }
+}
+
+/* One outcome: nothing is written by a refusal, what is scrambled comes back, and other pipes play no part. */
+static enum outcome check_sent(enum way way, const struct pipes *pipes, const uint8_t *packet, char end)
+{
+    uint8_t out[SLIPGREASE_PACKET_BYTES], again[SLIPGREASE_PACKET_BYTES], others[SLIPGREASE_PIPES_BYTES];
+    memset(out, UNTOUCHED, sizeof out);
+    memset(again, UNTOUCHED, sizeof again);
+    uint8_t reply = send(way, pipes->list, packet, out);
+    invert_others(pipes, packet, others);
+    int same = send(way, others, packet, again) == reply && memcmp(again, out, sizeof out) == 0;
+    stop_packet_unless(same, "what other pipes have plays a part", packet);
+    if (reply != SLIPGREASE_REPLY_DONE) {
+        for (size_t i = 0; i < sizeof out; i++)
+            stop_packet_unless(out[i] == UNTOUCHED, "it is refused, and the buffer has changed", packet);
+        print(&reply, 1, end);
+        return REFUSED;
+    }
+    if (way != DESCRAMBLED) {
+        int back = send(DESCRAMBLED, pipes->list, out, again) == SLIPGREASE_REPLY_DONE && memcmp(again, packet, sizeof again) == 0;
+        stop_packet_unless(back, "it is scrambled, and does not come back", packet);
+    }
+    print(out, sizeof out, end);
+    return memcmp(out, packet, sizeof out) == 0 ? COPIED : CHANGED;
+}
+
+static void make_packets(unsigned long count)
+{
+    unsigned long counts[OUTCOMES] = {0, 0, 0};
+    for (unsigned length = 0; length < 256; length++)
+        for (unsigned long i = 0; i < count; i++) {
+            struct pipes pipes;
+            draw_pipes(&pipes);
+            print((const uint8_t *)pipes.keys, sizeof pipes.keys, '\n');
+            for (unsigned header = 0; header < 4 * 4; header++) {
+                uint8_t packet[SLIPGREASE_PACKET_BYTES];
+                draw_packet(&pipes, packet, header / 4, length, header % 4);
+                print(packet, sizeof packet, ' ');
+                for (enum way way = 0; way < WAYS; way++)
+                    counts[check_sent(way, &pipes, packet, way + 1 < WAYS ? ' ' : '\n')]++;
+            }
+        }
+    printf("# %lu changed, %lu copied, %lu refused\n", counts[CHANGED], counts[COPIED], counts[REFUSED]);
+}
+
 static const struct kind {
     const char *name;
     void (*make)(unsigned long count);
 } kinds[] = {
     {"wrap", make_wraps},
+    {"packet", make_packets},
 };
 
 int main(int count, char **words)
@@ -148,6 +269,6 @@ int main(int count, char **words)
             kinds[i].make(of_each);
             return 0;
         }
-    fputs("usage: cases KIND SEED COUNT, where KIND is wrap and COUNT is not 0\n", stderr);
+    fputs("usage: cases KIND SEED COUNT, where KIND is wrap or packet and COUNT is not 0\n", stderr);
     return 2;
 }

@@ -120,3 +120,10 @@ isWrappedOf keys wrapped = eqb (length wrapped) (length keys + 8) else 17
 -- the register that unwrapping recovers is RFC 3394's initial value
 abbrev pub isIntact : List ℕ → Check
 isIntact register = below 8 (λ i. eqb (getD register i 0) 0xa6) else 18
+
+-- a transport packet, and room for one
+abbrev pub arePackets : List ℕ → List ℕ → Check
+arePackets packet out = eqb (length packet) 188 && eqb (length out) 188 else 19
+
+abbrev pub isSynced : List ℕ → Check
+isSynced packet = eqb (getD packet 0 0) 0x47 else 20

@@ -38,6 +38,16 @@ pub const WRAPPED_LENGTH: u8 = 17;
 
 pub const INTEGRITY: u8 = 18;
 
+pub const PACKET_LENGTH: u8 = 19;
+
+pub const SYNC_LOST: u8 = 20;
+
+pub const FIELD_WRONG: u8 = 21;
+
+pub const PIPES_WRONG: u8 = 22;
+
+pub const BITS_WRONG: u8 = 23;
+
 // A reply number and a value side by side; a refusal has value 0.
 pub struct Valued {
     pub number: u8,

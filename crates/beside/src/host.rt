@@ -17,6 +17,8 @@ pub fn sort_reply(number: u8) -> Sorted
         1..=8 => Sorted::CallerFault,
         9..=13 => Sorted::DataFault,
         18 => Sorted::DataFault,
+        20..=21 => Sorted::DataFault,
+        23 => Sorted::DataFault,
         _ => Sorted::CallerFault,
     }
 }

@@ -21,6 +21,8 @@ use Rattle.face.proofs.slipgrease_read_sheet.Reads as read-sheet
 use Rattle.face.proofs.slipgrease_record_masked.Reads as record-masked
 use Rattle.face.proofs.slipgrease_record_masked_decryption.Reads as record-masked-decryption
 use Rattle.face.proofs.slipgrease_record_plain.Reads as record-plain
+use Rattle.face.proofs.slipgrease_descramble.Reads as descramble
+use Rattle.face.proofs.slipgrease_scramble.Reads as scramble
 use Rattle.face.proofs.slipgrease_sort_reply.Reads as sort-reply
 use Rattle.face.proofs.slipgrease_unwrap.Reads as unwrap
 use Rattle.face.proofs.slipgrease_unwrap_masked.Reads as unwrap-masked
@@ -99,6 +101,12 @@ wrap-masked-unique κs args e f x y p q = both x y _ _ _ p q
 
 pub unwrap-masked-unique : UniqueWriting unwrap-masked.Post (λ κs e. e .1 .1 .0 .now)
 unwrap-masked-unique κs args e f x y p q = both x y _ _ _ p q
+
+pub scramble-unique : UniqueWriting scramble.Post (λ κs e. e .1 .0 .now)
+scramble-unique κs args e f x y p q = both x y _ _ _ p q
+
+pub descramble-unique : UniqueWriting descramble.Post (λ κs e. e .1 .0 .now)
+descramble-unique κs args e f x y p q = both x y _ _ _ p q
 
 pub sort-reply-unique : Unique sort-reply.Post
 sort-reply-unique κs args exit x y p q = p ∙ sym q

@@ -10,6 +10,7 @@ ghost use Rattle.beside.specs.Inversion.{maskedInverse};
 ghost use Rattle.beside.specs.Stored.{convertOf};
 ghost use Rattle.beside.specs.Host.{sortedNumber, sortReplyOf};
 ghost use Rattle.wrap.specs.Calls.{wrapOf, wrapMaskedOf, unwrapOf, unwrapMaskedOf};
+ghost use Rattle.packet.specs.Calls.{scrambleOf, descrambleOf};
 ghost use Rattle.face.specs.Packed.{packed, packedBeside};
 use aes::reply::Valued;
 use beside::Sorted;
@@ -204,6 +205,25 @@ pub extern "C" fn slipgrease_unwrap_masked(
     ensures { λ r. ⌜ (r, now (key_data .exit)) ≡ unwrapMaskedOf (now (schedule .entry)) (now (wrapped .entry)) (now (key_data .entry)) offset ⌝ }
 {
     wrap::unwrap_masked(schedule, wrapped, key_data, offset)
+}
+
+#[no_mangle]
+pub extern "C" fn slipgrease_scramble(
+    packet: &[u8],
+    packet_out: &mut [u8],
+    pipes: &[u8],
+    odd: bool,
+) -> u8
+    ensures { λ r. ⌜ (r, now («packet_out» .exit)) ≡ scrambleOf (now (packet .entry)) (now («packet_out» .entry)) (now (pipes .entry)) odd ⌝ }
+{
+    packet::scramble(packet, packet_out, pipes, odd)
+}
+
+#[no_mangle]
+pub extern "C" fn slipgrease_descramble(packet: &[u8], packet_out: &mut [u8], pipes: &[u8]) -> u8
+    ensures { λ r. ⌜ (r, now («packet_out» .exit)) ≡ descrambleOf (now (packet .entry)) (now («packet_out» .entry)) (now (pipes .entry)) ⌝ }
+{
+    packet::descramble(packet, packet_out, pipes)
 }
 
 #[no_mangle]

@@ -110,7 +110,8 @@ fn put(text: &mut [u8], last: usize, n: u64) {
     }
 }
 
-fn put_byte(text: &mut [u8], at: usize, byte: u8) {
+// Nothing is put past the end.
+pub fn put_byte(text: &mut [u8], at: usize, byte: u8) {
     if at < text.len() {
         text[at] = byte;
     }

@@ -1,4 +1,4 @@
-// Rows of sixteen vectors that share a key.
+// Rows of up to sixteen vectors that share a key.
 use crate::text::part;
 use crate::vector;
 use crate::vector::Vector;
@@ -11,15 +11,20 @@ pub struct Row {
     pub cipher: [u8; 256],
 }
 
-// The vectors from the first line of a text on that share its key, and from the first on again where they are fewer.
+// Without any block yet.
+pub fn none(first: Vector) -> Row {
+    let blocks = [0u8; 256];
+    Row {
+        first,
+        plain: blocks,
+        cipher: blocks,
+    }
+}
+
+// Sixteen vectors: those from the first line of a text on that share its key, and from the first on again where they are fewer.
 pub fn read(text: &[u8]) -> Row {
     let first = vector::read(part(text, 0, b'\n'));
-    let none = [0u8; 256];
-    let mut row = Row {
-        first,
-        plain: none,
-        cipher: none,
-    };
+    let mut row = none(first);
     let mut line = 0;
     let mut k = 0;
     while k < 16 {
@@ -37,14 +42,14 @@ pub fn read(text: &[u8]) -> Row {
     row
 }
 
-fn shares_key(first: Vector, next: Vector) -> bool {
+pub fn shares_key(first: Vector, next: Vector) -> bool {
     let key = first.key;
     let other = next.key;
     next.read & same(&key, &other)
 }
 
 // With the blocks of a vector at the place k.
-fn with(row: Row, k: usize, v: Vector) -> Row {
+pub fn with(row: Row, k: usize, v: Vector) -> Row {
     let first = row.first;
     let mut plain = row.plain;
     let mut cipher = row.cipher;

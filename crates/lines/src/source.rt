@@ -17,6 +17,7 @@ pub enum Kind {
     RfcWrap,
     NistWrap,
     DamagedWrap,
+    Cbc,
     Unknown,
 }
 
@@ -33,9 +34,10 @@ pub fn kind_of(line: &[u8], counts: &mut [u64; CELLS]) -> Kind {
 # steps
 # wrap rfc
 # wrap nist
-# wrap damaged";
-    let place = place_of(line, headers, 11);
-    if (0 < place) & (place < 11) {
+# wrap damaged
+# cbc";
+    let place = place_of(line, headers, 12);
+    if (0 < place) & (place < 12) {
         counts[SOURCE] = place as u64;
         return Kind::Header;
     }
@@ -55,6 +57,7 @@ pub fn kind_of(line: &[u8], counts: &mut [u64; CELLS]) -> Kind {
         8 => Kind::RfcWrap,
         9 => Kind::NistWrap,
         10 => Kind::DamagedWrap,
+        11 => Kind::Cbc,
         _ => Kind::Unknown,
     }
 }

@@ -12,14 +12,24 @@ pub struct Vector {
 }
 
 pub fn read(line: &[u8]) -> Vector {
+    let mut v = of_fields(
+        part(line, 0, b' '),
+        part(line, 1, b' '),
+        part(line, 2, b' '),
+    );
+    v.read = v.read & (line.len() == 130);
+    v
+}
+
+pub fn of_fields(key_field: &[u8], plain_field: &[u8], cipher_field: &[u8]) -> Vector {
     let mut key = [0u8; 32];
     let mut plain = [0u8; 16];
     let mut cipher = [0u8; 16];
-    let first = read_hex(part(line, 0, b' '), &mut key);
-    let second = read_hex(part(line, 1, b' '), &mut plain);
-    let third = read_hex(part(line, 2, b' '), &mut cipher);
+    let first = read_hex(key_field, &mut key);
+    let second = read_hex(plain_field, &mut plain);
+    let third = read_hex(cipher_field, &mut cipher);
     Vector {
-        read: first & second & third & (line.len() == 130),
+        read: first & second & third,
         key,
         plain,
         cipher,

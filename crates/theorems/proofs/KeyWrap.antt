@@ -79,7 +79,7 @@ fails false h = refl
 
 -- Of any schedule of 240 bytes.
 module _ {w : List ℕ} (hw : Bytes 240 w) where
-  sealing : Undone (cipher 14 w) (invCipher 14 w)
+  pub sealing : Undone (cipher 14 w) (invCipher 14 w)
   sealing = record { size = cipher-size 14 w; kept = cipher-bytes 240 w hw 14; undo = inv-cipher-cipher 240 w hw 14 }
 
   opening : Undone (invCipher 14 w) (cipher 14 w)

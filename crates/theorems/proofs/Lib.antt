@@ -28,3 +28,7 @@ pub mod BackBalance
 pub mod BackOrder
 pub mod WrapTrip
 pub mod KeyWrap
+pub mod CbcTrip
+pub mod Restored
+pub mod Packets
+pub mod OwnPipe

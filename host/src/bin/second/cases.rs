@@ -1,6 +1,9 @@
 //! Draws what a call is lent, with the causes of refusal that are asked for and no others.
 
+mod packets;
 mod wraps;
+
+pub use packets::packet;
 
 use crate::cipher::{expand_key, Boxes};
 use crate::lent::{Buffer, Lent};
@@ -9,7 +12,7 @@ use crate::random::Random;
 use crate::replies::{record_length, takes_many, Cause};
 
 /// The lengths that calls take: each is the wrong one for another buffer.
-const LENGTHS: [usize; 9] = [16, 21, 22, 24, 32, 240, 264, 1136, 1360];
+const LENGTHS: [usize; 11] = [16, 21, 22, 24, 32, 188, 240, 264, 1136, 1360, 3486];
 
 /// For a call that has such an order of refusals. Broken has the causes that are wanted.
 pub fn draw(random: &mut Random, boxes: &Boxes, order: &[Cause], broken: &[Cause]) -> Lent {
@@ -27,12 +30,34 @@ pub fn draw(random: &mut Random, boxes: &Boxes, order: &[Cause], broken: &[Cause
     let sheet = sheet(random, wants);
     let blank = bytes(random, if step == 1 { 21 } else { 22 }, wants(Cause::BlankLength));
     let (key_data, wrapped) = wraps::pair(random, boxes, &schedule, order, wants);
-    let [key, schedule, input, output, masks, states, sheet, blank, offsets, key_data, wrapped] =
-        [key, schedule, input, output, masks, states, sheet, blank, offsets, key_data, wrapped]
-            .map(|body| Buffer::new(random, &body));
+    let [packet, packet_out, pipes] = packets::three(random, boxes, order, wants);
+    let [key, schedule, input, output, masks, states, sheet] =
+        [key, schedule, input, output, masks, states, sheet].map(|body| Buffer::new(random, &body));
+    let [blank, offsets, key_data, wrapped, packet, packet_out, pipes] =
+        [blank, offsets, key_data, wrapped, packet, packet_out, pipes].map(|body| Buffer::new(random, &body));
     let offset = if wants(Cause::Offset) { 16 + random.below(240) } else { random.below(16) } as u8;
     let form = form(random, wants(Cause::Form));
-    Lent { key, schedule, input, output, masks, states, sheet, blank, offsets, key_data, wrapped, offset, step, form }
+    let odd = random.below(2) == 1;
+    Lent {
+        key,
+        schedule,
+        input,
+        output,
+        masks,
+        states,
+        sheet,
+        blank,
+        offsets,
+        key_data,
+        wrapped,
+        packet,
+        packet_out,
+        pipes,
+        offset,
+        step,
+        form,
+        odd,
+    }
 }
 
 /// Empty, one off, twice as long, a length that another buffer has, or any.

@@ -1,5 +1,6 @@
 //! The edges that the scope and the requests name, one by one.
 
+mod packets;
 mod records;
 mod sheets;
 mod steps;
@@ -11,7 +12,7 @@ use crate::report::Tally;
 use slipgrease::calls;
 
 /// A name, what the library gave and what it should give.
-struct Edge {
+pub struct Edge {
     name: String,
     given: u16,
     expected: u16,
@@ -39,6 +40,10 @@ pub fn compare(spoiled: bool) -> Tally {
         wraps::examples(),
         wraps::refused(),
         wraps::broken(),
+        packets::example(),
+        packets::fields(),
+        packets::refused(),
+        packets::unlisted(),
     ];
     for edge in edges.into_iter().flatten() {
         let expected = edge.expected ^ u16::from(spoiled);
@@ -73,6 +78,8 @@ fn huge() -> Vec<Edge> {
         edge("the same, decrypting", calls::decrypt_masked(&[0; 240], &[0; 16], &mut [0; 16], &many, 0, 1), 5),
         edge("reply to key data of a mebibyte, wrapped", calls::wrap(&[0; 240], &many, &mut [0; 24]), 16),
         edge("reply to a wrapped key of a mebibyte", calls::unwrap(&[0; 240], &many, &mut [0; 16]), 17),
+        edge("reply to a packet of a mebibyte", calls::scramble(&many, &mut [0; 188], &many, false), 19),
+        edge("reply to a list of a mebibyte", calls::descramble(&[0x47; 188], &mut [0; 188], &many), 22),
         edge("reply to a sheet of a mebibyte", calls::read_sheet(&sheet, &mut [0; 16]) >> 8, 11),
     ]
 }

@@ -64,13 +64,18 @@ pub struct Lent {
     /// Key data, and a wrapped key.
     pub key_data: Buffer,
     pub wrapped: Buffer,
+    /// A transport packet, the buffer for another, and the list of pipes.
+    pub packet: Buffer,
+    pub packet_out: Buffer,
+    pub pipes: Buffer,
     pub offset: u8,
     pub step: u8,
     pub form: u8,
+    pub odd: bool,
 }
 
 impl Lent {
-    fn buffers(&self) -> [(&'static str, &Buffer); 11] {
+    fn buffers(&self) -> [(&'static str, &Buffer); 14] {
         [
             ("key", &self.key),
             ("schedule", &self.schedule),
@@ -83,6 +88,9 @@ impl Lent {
             ("offsets", &self.offsets),
             ("key data", &self.key_data),
             ("wrapped key", &self.wrapped),
+            ("packet", &self.packet),
+            ("packet written", &self.packet_out),
+            ("list of pipes", &self.pipes),
         ]
     }
 
@@ -106,6 +114,9 @@ impl Lent {
             &mut self.offsets,
             &mut self.key_data,
             &mut self.wrapped,
+            &mut self.packet,
+            &mut self.packet_out,
+            &mut self.pipes,
         ];
         let which = random.below(buffers.len());
         buffers[which].spoil(random);

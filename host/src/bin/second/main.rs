@@ -1,10 +1,12 @@
 //! The independent second program: `second SEED CASES [SPOILED]` compares every public call of the library with an
-//! implementation of its own, on so many cases drawn from the seed, on every step, every form and every length of key data where
-//! there is one, and on all inputs of the calls that take bytes alone; and it compares blocks and keys with themselves, sealed and
-//! opened again.
+//! implementation of its own, on so many cases drawn from the seed, on every step, every form, every length of key data and every
+//! header of a packet where there is one, and on all inputs of the calls that take bytes alone; and it compares blocks, keys and
+//! packets with themselves, sealed and opened again.
 //!
 //! It prints for each call how many cases were compared and how many differ, and fails where any does. SPOILED names a call, or
 //! `edges`: what is expected of it is then changed, so that each of its cases must differ.
+//!
+//! `second stream CLEAR SCRAMBLED PIPES even|odd` looks at a stream that the desk tool has scrambled.
 
 #![forbid(unsafe_code)]
 
@@ -17,11 +19,14 @@ mod edges;
 mod field;
 mod lent;
 mod masked;
+mod packet;
+mod packets;
 mod random;
 mod replies;
 mod report;
 mod sheet;
 mod steps;
+mod stream;
 mod table;
 mod trips;
 mod wrap;
@@ -37,15 +42,19 @@ use std::process::exit;
 fn main() {
     let words: Vec<String> = std::env::args().skip(1).collect();
     let number = |i: usize| words.get(i).and_then(|word| word.parse().ok());
-    let same = match (number(0), number(1), words.len()) {
-        (Some(seed), Some(cases), 2) => all(seed, cases as usize, ""),
-        (Some(seed), Some(cases), 3) => all(seed, cases as usize, &words[2]),
-        _ => {
-            eprintln!("usage: second SEED CASES [SPOILED]");
+    let compared = match (number(0), number(1), &words[..]) {
+        (Some(seed), Some(cases), [_, _]) => Ok(all(seed, cases as usize, "")),
+        (Some(seed), Some(cases), [_, _, spoiled]) => Ok(all(seed, cases as usize, spoiled)),
+        (_, _, [word, clear, made, list, parity]) if word == "stream" => stream::compare(clear, made, list, parity),
+        _ => Err("usage: second SEED CASES [SPOILED], or second stream CLEAR SCRAMBLED PIPES even|odd".into()),
+    };
+    match compared {
+        Ok(same) => exit(i32::from(!same)),
+        Err(fault) => {
+            eprintln!("{fault}");
             exit(2)
         }
-    };
-    exit(i32::from(!same))
+    }
 }
 
 /// Whether nothing differs.
@@ -53,9 +62,10 @@ fn all(seed: u64, cases: usize, spoiled: &str) -> bool {
     let boxes = Boxes::new();
     let mut random = Random::new(seed);
     let mut report = Report::start();
+    let mut name_before = "";
     for call in table::calls() {
         let trial = || Trial { call, boxes: &boxes, spoiled: call.name == spoiled, tally: Tally::default() };
-        let [mut drawn, mut every_step, mut every_form, mut every_length] = [(); 4].map(|()| trial());
+        let [mut drawn, mut every_step, mut every_form, mut every_length, mut every_header] = [(); 5].map(|()| trial());
         compare(&mut drawn, &mut random, cases);
         report.row(call.name, call.method, drawn.tally);
         if steps::compare(&mut every_step, &mut random) {
@@ -67,6 +77,11 @@ fn all(seed: u64, cases: usize, spoiled: &str) -> bool {
         if wraps::compare(&mut every_length, &mut random) {
             report.row(call.name, "every length, offset and bit", every_length.tally);
         }
+        // Once for a name: what follows has more cases than the drawn ones.
+        if call.name != name_before && packets::compare(&mut every_header, &mut random) {
+            report.row(call.name, "every header, length and PID", every_header.tally);
+        }
+        name_before = call.name;
     }
     trips::compare(&mut report, &mut random, &boxes, cases, spoiled);
     for call in BYTE_CALLS {

@@ -3,6 +3,7 @@
 
 use crate::cipher::Boxes;
 use crate::lent::Lent;
+use crate::packet::{has_block, payload_start, pipe_of, pipes, Header, PACKET, SYNC};
 use crate::wrap::{unwrapped, INITIAL};
 
 /// What a call can find wrong. A reply number can have several causes: a sheet is measured twice where it is read, for many
@@ -42,6 +43,17 @@ pub enum Cause {
     Wrapped,
     /// Of a wrapped key whose lengths are right: another register than the initial value.
     Integrity,
+    /// A packet, or the buffer for it, of another length than a packet has.
+    Packet,
+    Sync,
+    /// A list of another length than seven pipes have, or with PIDs that it may not have.
+    Pipes,
+    /// Of a listed PID: an adaptation code and a length that do not fit each other.
+    Field,
+    /// Of a listed PID: scrambling bits that are set already.
+    BitsToScramble,
+    /// Of a listed PID: scrambling bits that are reserved, or are set where nothing can have been scrambled.
+    BitsToDescramble,
 }
 
 /// The number of the first cause in a call's order that is there, and 0 where none is.
@@ -62,6 +74,16 @@ pub fn takes_many(order: &[Cause]) -> bool {
 /// Whether a call with these refusals opens a wrapped key.
 pub fn opens(order: &[Cause]) -> bool {
     order.contains(&Cause::Integrity)
+}
+
+/// Whether a call with these refusals takes a packet.
+pub fn takes_packets(order: &[Cause]) -> bool {
+    order.contains(&Cause::Packet)
+}
+
+/// Whether a call with these refusals descrambles a packet.
+pub fn descrambles(order: &[Cause]) -> bool {
+    order.contains(&Cause::BitsToDescramble)
 }
 
 /// Whether key data may be so long.
@@ -97,14 +119,20 @@ impl Cause {
             Cause::KeyData => 16,
             Cause::Wrapped => 17,
             Cause::Integrity => 18,
+            Cause::Packet => 19,
+            Cause::Sync => 20,
+            Cause::Field => 21,
+            Cause::Pipes => 22,
+            Cause::BitsToScramble | Cause::BitsToDescramble => 23,
         }
     }
 
-    /// Of a sheet or a wrapped key a later cause is looked for only where no earlier one is there.
+    /// Of a sheet, a wrapped key or a packet a later cause is looked for only where no earlier one is there.
     fn is_there(self, boxes: &Boxes, lent: &Lent) -> bool {
         let (input, offsets) = (lent.input.lent(), lent.offsets.lent());
         let (sheet, blank) = (lent.sheet.lent(), lent.blank.lent());
         let (key_data, wrapped) = (lent.key_data.lent(), lent.wrapped.lent());
+        let packet = lent.packet.lent();
         match self {
             Cause::Key => lent.key.lent().len() != 32,
             Cause::Schedule => lent.schedule.lent().len() != 240,
@@ -129,6 +157,23 @@ impl Cause {
             Cause::KeyData => !takes_key_data(key_data.len()),
             Cause::Wrapped => wrapped.len() != key_data.len() + 8,
             Cause::Integrity => unwrapped(boxes, lent.schedule.lent(), wrapped).0 != INITIAL,
+            Cause::Packet => packet.len() != PACKET || lent.packet_out.lent().len() != PACKET,
+            Cause::Sync => Header::read(packet).sync != SYNC,
+            Cause::Pipes => pipes(lent.pipes.lent()).is_none(),
+            Cause::Field => lent.is_listed() && payload_start(packet).is_none(),
+            Cause::BitsToScramble => lent.is_listed() && Header::read(packet).scrambling != 0b00,
+            Cause::BitsToDescramble => match Header::read(packet).scrambling {
+                0b00 => false,
+                0b01 => lent.is_listed(),
+                _ => lent.is_listed() && !has_block(packet),
+            },
         }
+    }
+}
+
+impl Lent {
+    /// Whether the list, which is taken, has the packet's PID.
+    fn is_listed(&self) -> bool {
+        pipes(self.pipes.lent()).map_or(false, |pipes| pipe_of(&pipes, self.packet.lent()).is_some())
     }
 }

@@ -37,7 +37,7 @@ fn is_even(masks: &[u8], bits: [u32; 3]) -> bool {
 pub fn sorted(number: u8) -> u8 {
     match number {
         0 => 0,
-        9..=13 | 18 => 2,
+        9..=13 | 18 | 20 | 21 | 23 => 2,
         _ => 1,
     }
 }

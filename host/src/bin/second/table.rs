@@ -3,6 +3,7 @@
 
 mod decryption;
 mod encryption;
+mod packets;
 mod plain;
 mod sheets;
 mod stored;
@@ -24,7 +25,8 @@ pub struct Call {
 }
 
 pub fn calls() -> impl Iterator<Item = &'static Call> {
-    [plain::CALLS, encryption::CALLS, decryption::CALLS, sheets::CALLS, stored::CALLS, wraps::CALLS].into_iter().flatten()
+    let kinds = [plain::CALLS, encryption::CALLS, decryption::CALLS, sheets::CALLS, stored::CALLS, wraps::CALLS, packets::CALLS];
+    kinds.into_iter().flatten()
 }
 
 fn write(target: &mut Buffer, bytes: &[u8]) -> u8 {

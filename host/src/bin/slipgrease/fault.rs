@@ -1,9 +1,10 @@
 //! Why a command failed: what was wrong, where, and what was expected, and the status that the tool ends with.
 
 use slipgrease::Refusal;
-use std::io;
+use std::fmt::Display;
+use std::io::{self, ErrorKind};
 
-/// A message for standard error and the tool's status.
+/// A message for standard error and the tool's status. Where that is 0, the command has ended without a fault, and says nothing.
 #[derive(Debug, PartialEq)]
 pub struct Fault {
     pub message: String,
@@ -33,10 +34,18 @@ impl Fault {
             _ => Fault::caller(message),
         }
     }
+
+    /// What could not be read or written, and where.
+    pub fn at(place: impl Display, error: io::Error) -> Fault {
+        let fault = Fault::from(error);
+        Fault { message: format!("{place}: {}", fault.message), ..fault }
+    }
 }
 
+/// Whoever reads what a command writes may go before its end, as `head` does after ten lines; that is no fault.
 impl From<io::Error> for Fault {
     fn from(error: io::Error) -> Fault {
-        Fault::caller(error.to_string())
+        let status = if error.kind() == ErrorKind::BrokenPipe { 0 } else { 1 };
+        Fault { message: error.to_string(), status }
     }
 }

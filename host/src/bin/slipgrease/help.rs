@@ -112,6 +112,50 @@ $ slipgrease unwrap 000102030405060708090a0b0c0d0e0f101112131415161718191a1b1c1d
 ...",
     },
     Help {
+        name: "scramble",
+        usage: "scramble --pipes FILE (--even | --odd) [--pass] [IN [OUT]]",
+        summary: "a stream of transport packets scrambled for seven pipes",
+        text: "\
+Takes a stream of 188-byte packets (ISO/IEC 13818-1) from a file or standard input to a file or standard output. Of a listed PID,
+the whole 16-byte blocks of the payload are encrypted by CBC, in each packet from the pipe's starting block on, with the pipe's even
+or odd key as the caller names, and the scrambling bits become 10 or 11. All other packets are copied, and so are those with a
+payload under 16 bytes. After each read all packets that are whole are written, so that it stands in a live pipe. Standard input and
+output are meant where no file is named, or -.
+
+FILE has a line for each of the seven pipes: PID, even key, odd key and starting block, of 4, 64, 64 and 32 hex digits; what follows
+a # is left out. No key is ever printed.
+
+At the end a table on standard error counts the packets of each PID: changed, copied, and refused, by the library's reply number. A
+packet that is refused ends the run, and so does a last piece under 188 bytes. Both are data faults, told with their place in packets
+and bytes, which are counted from 0, and all packets before have been written. Where sync is lost because the stream is one of 192-
+or 204-byte packets, that is told too.
+
+With --pass a refused packet is copied and counted, and the run goes on. Where sync is lost, it goes on 188 bytes at a time, and
+what has no sync byte is counted in the row lost, for it has no PID. A last piece under 188 bytes is copied, and told below the
+table.",
+        example: "\
+$ slipgrease scramble --pipes pipes.txt --even clear.ts scrambled.ts
+PID       packets      changed       copied   refused 20   refused 21   refused 23
+0000            1            0            1            0            0            0
+0100            3            2            1            0            0            0
+all             4            2            2            0            0            0",
+    },
+    Help {
+        name: "descramble",
+        usage: "descramble --pipes FILE [--pass] [IN [OUT]]",
+        summary: "the stream that scramble was given",
+        text: "\
+Takes a stream as scramble does, with the same file of pipes. The scrambling bits of each packet name the even or the odd key, and
+become 00. A packet whose bits are 00 is copied, and so is every packet of a PID that is not listed. What is refused, counted and
+passed is as for scramble, whose help says more.",
+        example: "\
+$ slipgrease descramble --pipes pipes.txt scrambled.ts restored.ts
+PID       packets      changed       copied   refused 20   refused 21   refused 23
+0000            1            0            1            0            0            0
+0100            3            2            1            0            0            0
+all             4            2            2            0            0            0",
+    },
+    Help {
         name: "convert",
         usage: "convert [STORED OFFSET]",
         summary: "the standard block of one that an early module stored in form 1",
@@ -205,9 +249,9 @@ command is done, 1 for a caller fault and 2 for a data fault; a refusal is told 
 
 /// All commands, a line for each.
 pub fn all() -> String {
-    let lines: Vec<String> = HELPS.iter().map(|help| format!("  {:<10}{}\n", help.name, help.summary)).collect();
+    let lines: Vec<String> = HELPS.iter().map(|help| format!("  {:<12}{}\n", help.name, help.summary)).collect();
     format!(
-        "slipgrease COMMAND ..: AES-256 block by block, plain and masked, and key wrap, by a proved library\n\n{}\n\
+        "slipgrease COMMAND ..: AES-256 block by block, plain and masked, key wrap and packets, by a proved library\n\n{}\n\
          slipgrease COMMAND --help says more, with an example.\n\n{STATUS}",
         lines.concat()
     )

@@ -16,3 +16,12 @@ pub fn bytes(word: &str) -> Result<Vec<u8>, String> {
     let value = |i: usize| u8::from_str_radix(&word[i..i + 2], 16).expect("two hex digits");
     Ok((0..word.len()).step_by(2).map(value).collect())
 }
+
+/// So many bytes of a word, or what is wrong with it, without repeating anything of the word.
+pub fn unrepeated<const N: usize>(word: &str) -> Result<[u8; N], String> {
+    if let Some(index) = word.chars().position(|c| !c.is_ascii_hexdigit()) {
+        return Err(format!("digit {} is not a hex digit", index + 1));
+    }
+    let of_length = bytes(word).ok().and_then(|bytes| bytes.try_into().ok());
+    of_length.ok_or_else(|| format!("hex digits: {}, expected: {}", word.len(), 2 * N))
+}

@@ -14,6 +14,7 @@ mod pipe;
 mod progress;
 mod record;
 mod sheet;
+mod stream;
 mod svg;
 mod table;
 mod vectors;
@@ -22,57 +23,82 @@ mod wrap;
 
 use crate::fault::Fault;
 use crate::words::Words;
-use std::io::{self, BufRead, Write};
+use crate::Command::{Printing, Streaming};
+use std::ffi::OsString;
+use std::fs::File;
+use std::io::{self, BufRead, BufWriter, Write};
+use std::os::unix::io::AsFd;
 use std::process::exit;
 
 fn main() {
-    let words: Vec<String> = std::env::args().skip(1).collect();
-    let mut said = Vec::new();
-    let done = run(&words, &mut io::stdin().lock(), &mut said);
-    // Whoever reads the rest may have gone, as `head` has after ten lines; that is no fault.
-    let _ = io::stdout().write_all(&said).and_then(|()| io::stdout().flush());
-    if let Err(fault) = done {
-        eprintln!("slipgrease: {}", fault.message);
+    let words: Vec<OsString> = std::env::args_os().skip(1).collect();
+    if let Err(fault) = run_at_the_desk(&words) {
+        if fault.status != 0 {
+            // There is nobody left to tell where this fails too.
+            let _ = writeln!(io::stderr(), "slipgrease: {}", fault.message);
+        }
         exit(fault.status)
     }
 }
 
-type Command = fn(&mut Words, &mut dyn Write) -> Result<(), Fault>;
+/// Runs one command between the standard streams.
+fn run_at_the_desk(words: &[OsString]) -> Result<(), Fault> {
+    // Rust's own standard output looks for the ends of lines, which a stream of packets does not have.
+    let out = io::stdout().as_fd().try_clone_to_owned().map(File::from)?;
+    let mut out = BufWriter::new(out);
+    let done = run(words, &mut io::stdin().lock(), &mut out, &mut io::stderr());
+    let flushed = out.flush().map_err(|error| Fault::at("standard output", error));
+    done.and(flushed)
+}
+
+/// What a command writes to.
+enum Command {
+    /// Standard output.
+    Printing(fn(&mut Words, &mut dyn Write) -> Result<(), Fault>),
+    /// Standard output or a file, and standard error for what it tells of it.
+    Streaming(fn(&mut Words, &mut dyn Write, &mut dyn Write) -> Result<(), Fault>),
+}
 
 /// Each command by its name. Its help stands under the same name.
 const COMMANDS: &[(&str, Command)] = &[
-    ("expand", cipher::expand),
-    ("encrypt", cipher::encrypt),
-    ("decrypt", cipher::decrypt),
-    ("mask", cipher::mask),
-    ("unmask", cipher::unmask),
-    ("blocks", cipher::blocks),
-    ("wrap", wrap::wrap),
-    ("unwrap", wrap::unwrap),
-    ("convert", convert::convert),
-    ("record", record::record),
-    ("pipe", pipe::pipe),
-    ("sheet", sheet::sheet),
-    ("fitness", sheet::fitness),
-    ("vectors", vectors::vectors),
+    ("expand", Printing(cipher::expand)),
+    ("encrypt", Printing(cipher::encrypt)),
+    ("decrypt", Printing(cipher::decrypt)),
+    ("mask", Printing(cipher::mask)),
+    ("unmask", Printing(cipher::unmask)),
+    ("blocks", Printing(cipher::blocks)),
+    ("wrap", Printing(wrap::wrap)),
+    ("unwrap", Printing(wrap::unwrap)),
+    ("scramble", Streaming(stream::scramble)),
+    ("descramble", Streaming(stream::descramble)),
+    ("convert", Printing(convert::convert)),
+    ("record", Printing(record::record)),
+    ("pipe", Printing(pipe::pipe)),
+    ("sheet", Printing(sheet::sheet)),
+    ("fitness", Printing(sheet::fitness)),
+    ("vectors", Printing(vectors::vectors)),
 ];
 
 /// Runs one command. What it writes is printed also where it fails.
-fn run(words: &[String], input: &mut dyn BufRead, out: &mut dyn Write) -> Result<(), Fault> {
-    let name = words.first().map_or("--help", String::as_str);
+fn run(words: &[OsString], input: &mut dyn BufRead, out: &mut dyn Write, notes: &mut dyn Write) -> Result<(), Fault> {
+    let name = words.first().map_or("--help".into(), |name| name.to_string_lossy());
     if name == "--help" || name == "-h" {
         out.write_all(help::all().as_bytes())?;
         return Ok(());
     }
-    let command = match COMMANDS.iter().find(|(its, _)| *its == name) {
-        Some((_, command)) => command,
+    let (name, command) = match COMMANDS.iter().find(|(its, _)| *its == name) {
+        Some(named) => named,
         None => return Err(Fault::caller(format!("no command {name}; slipgrease --help lists them"))),
     };
     if words[1..].iter().any(|word| word == "--help" || word == "-h") {
         out.write_all(help::of(name).as_bytes())?;
         return Ok(());
     }
-    command(&mut Words::new(name, &words[1..], input), out)
+    let mut words = Words::new(name, &words[1..], input);
+    match command {
+        Printing(command) => command(&mut words, out),
+        Streaming(command) => command(&mut words, out, notes),
+    }
 }
 
 #[cfg(test)]

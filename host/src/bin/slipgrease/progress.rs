@@ -4,30 +4,34 @@ use std::fs;
 use std::io::{stderr, Write};
 use std::time::{Duration, Instant};
 
-/// Nothing is shown before this has passed, and nothing more often than ten times a second.
+/// Nothing is shown before this has passed.
 const PATIENCE: Duration = Duration::from_secs(1);
-const PAUSE: Duration = Duration::from_millis(100);
 
 pub struct Progress {
-    what: &'static str,
-    total: usize,
+    pause: Duration,
+    last: Instant,
     next: Option<Instant>,
     shown: bool,
 }
 
 impl Progress {
-    pub fn start(what: &'static str, total: usize) -> Progress {
-        let next = if error_is_a_terminal() { Some(Instant::now() + PATIENCE) } else { None };
-        Progress { what, total, next, shown: false }
+    /// Shows something again only after a pause.
+    pub fn start(pause: Duration) -> Progress {
+        let last = Instant::now();
+        let next = if error_is_a_terminal() { Some(last + PATIENCE) } else { None };
+        Progress { pause, last, next, shown: false }
     }
 
-    pub fn at(&mut self, done: usize) {
+    /// Where it is time, shows a line, which is made with the time since the last one, or since the start.
+    pub fn at(&mut self, line: impl FnOnce(Duration) -> String) {
+        let next = match self.next {
+            Some(next) => next,
+            None => return,
+        };
         let now = Instant::now();
-        if self.next.map_or(false, |next| next <= now) {
-            eprint!("\r{done} of {} {}", self.total, self.what);
-            let _ = stderr().flush();
-            self.shown = true;
-            self.next = Some(now + PAUSE);
+        if next <= now {
+            tell(&format!("\r{}\x1b[K", line(now - self.last)));
+            (self.last, self.next, self.shown) = (now, Some(now + self.pause), true);
         }
     }
 }
@@ -36,9 +40,14 @@ impl Progress {
 impl Drop for Progress {
     fn drop(&mut self) {
         if self.shown {
-            eprint!("\r\x1b[K");
+            tell("\r\x1b[K");
         }
     }
+}
+
+/// Nothing depends on whether it arrives.
+fn tell(text: &str) {
+    let _ = stderr().write_all(text.as_bytes()).and_then(|()| stderr().flush());
 }
 
 /// By the name of what is open there, since Rust 1.63 has no question for it.

@@ -1,11 +1,15 @@
 //! Commands as they are typed. What is expected is from FIPS 197, the scope's own examples, or worked out here.
 
 mod decryption;
+mod folder;
 mod steps;
 mod stored;
+mod stream;
 mod wrap;
 
 use super::{help, run, COMMANDS};
+use folder::Folder;
+use std::ffi::OsString;
 use std::fs;
 
 const KEY: &str = "000102030405060708090a0b0c0d0e0f101112131415161718191a1b1c1d1e1f";
@@ -13,12 +17,12 @@ const BLOCK: &str = "00112233445566778899aabbccddeeff";
 const CIPHERTEXT: &str = "8ea2b7ca516745bfeafc49904b496089";
 const PUBLISHED: &str = "000f3639535c656a959aa3acc6c9f0ff";
 
-/// What a command prints, and its message and status where it fails.
+/// What a command prints, on standard error too, and its message and status where it fails.
 fn typed(line: &str, input: &str) -> (String, Option<(String, i32)>) {
-    let words: Vec<String> = line.split_whitespace().map(str::to_string).collect();
-    let mut out = Vec::new();
-    let failed = run(&words, &mut input.as_bytes(), &mut out).err();
-    (String::from_utf8(out).unwrap(), failed.map(|fault| (fault.message, fault.status)))
+    let words: Vec<OsString> = line.split_whitespace().map(OsString::from).collect();
+    let (mut out, mut notes) = (Vec::new(), Vec::new());
+    let failed = run(&words, &mut input.as_bytes(), &mut out, &mut notes).err();
+    (String::from_utf8([out, notes].concat()).unwrap(), failed.map(|fault| (fault.message, fault.status)))
 }
 
 fn printed(line: &str) -> String {
@@ -36,7 +40,7 @@ fn refused(line: &str) -> (String, i32) {
 #[test]
 fn every_command_has_its_help() {
     for (name, _) in COMMANDS {
-        assert!(printed("--help").contains(&format!("  {name:<10}")));
+        assert!(printed("--help").contains(&format!("  {name:<12}")));
         assert!(printed(&format!("{name} --help")).contains(&format!("$ slipgrease {name} ")));
     }
 }
@@ -51,18 +55,24 @@ fn piped(line: &str, input: &str) -> String {
 }
 
 /// An example whose last line is three dots is printed so far, and any other in full. The file of vectors has C.3 alone, and the
-/// partner's the key of RFC 3394, 4.6.
+/// partner's the key of RFC 3394, 4.6. What one example writes to a file the next one reads.
 #[test]
 fn the_examples_of_the_help_print_what_they_show() {
-    let file = std::env::temp_dir().join(format!("slipgrease-example-{}", std::process::id()));
-    fs::write(&file, format!("{KEY} {BLOCK} {CIPHERTEXT}\n")).unwrap();
+    let folder = Folder::new("example");
+    folder.file("vectors.txt", format!("{KEY} {BLOCK} {CIPHERTEXT}\n"));
+    folder.file("pipes.txt", stream::list());
+    let clear = folder.file("clear.ts", stream::example());
     for (name, _) in COMMANDS {
         let said = help::of(name);
         let examples: String =
             said.lines().filter_map(|line| line.strip_prefix("    ")).map(|line| format!("{line}\n")).collect();
         for example in examples.split("$ slipgrease ").skip(1) {
             let (command, shown) = example.split_once('\n').unwrap();
-            let command = command.replace("vectors.txt", &file.to_string_lossy());
+            let words = command.split(' ').map(|word| match word.split_once('.') {
+                Some((_, "txt" | "ts")) if !word.starts_with('<') => folder.path(word),
+                _ => word.to_string(),
+            });
+            let command = words.collect::<Vec<_>>().join(" ");
             let printed = match command.split_once(" <partner.txt") {
                 Some((first, rest)) => piped(&format!("{first}{rest}"), wrap::PARTNER_FILE),
                 None => printed(&command),
@@ -73,7 +83,7 @@ fn the_examples_of_the_help_print_what_they_show() {
             }
         }
     }
-    fs::remove_file(file).unwrap();
+    assert_eq!(fs::read(folder.path("restored.ts")).unwrap(), fs::read(clear).unwrap());
 }
 
 #[test]
@@ -247,12 +257,11 @@ fn two_runs_stand_side_by_side() {
 
 #[test]
 fn a_picture_has_a_cell_for_every_byte() {
-    let folder = std::env::temp_dir().join(format!("slipgrease-{}", std::process::id()));
-    fs::create_dir_all(&folder).unwrap();
-    let file = folder.join("run.svg");
+    let folder = Folder::new("picture");
+    let file = folder.path("run.svg");
     for (direction, block, made, bytes) in [("", BLOCK, CIPHERTEXT, 1136), (" --decrypt", CIPHERTEXT, BLOCK, 1360)] {
         for (more, panels, pale) in [("", 1, 0), (" --offset 3", 3, 0), (" --offset 3 --offset2 3", 3, 3)] {
-            assert_eq!(printed(&format!("record --svg {} {KEY} {block}{direction}{more}", file.display())), "");
+            assert_eq!(printed(&format!("record --svg {file} {KEY} {block}{direction}{more}")), "");
             let svg = fs::read_to_string(&file).unwrap();
             let legend = 16;
             assert_eq!(svg.matches("<text class=\"byte").count(), panels * bytes + legend);
@@ -265,7 +274,6 @@ fn a_picture_has_a_cell_for_every_byte() {
             assert!(svg.starts_with("<svg ") && svg.ends_with("</svg>\n"));
         }
     }
-    fs::remove_dir_all(folder).unwrap();
 }
 
 #[test]
@@ -281,10 +289,9 @@ fn the_pipe_s_key_is_the_rack_s_sixteen_times() {
 
 #[test]
 fn vectors_are_counted_and_a_wrong_one_is_a_data_fault() {
-    let folder = std::env::temp_dir().join(format!("slipgrease-vectors-{}", std::process::id()));
-    fs::create_dir_all(&folder).unwrap();
-    let file = folder.join("vectors.txt");
-    let line = format!("vectors {}", file.display());
+    let folder = Folder::new("vectors");
+    let file = folder.path("vectors.txt");
+    let line = format!("vectors {file}");
     fs::write(&file, format!("# C.3\n\n{KEY} {BLOCK} {CIPHERTEXT} # and a word on it\n")).unwrap();
     assert_eq!(printed(&line), "vectors 1, compared 34, differ 0\n");
     fs::write(&file, format!("{KEY} {BLOCK} {BLOCK}\n")).unwrap();
@@ -299,6 +306,6 @@ fn vectors_are_counted_and_a_wrong_one_is_a_data_fault() {
         .ends_with("line 1, ciphertext: 1 bytes: the input is not 16 bytes long; of many blocks, not 16 for each of 256 at most (reply 3, INPUT_LENGTH)"));
     fs::write(&file, "# C.3\n").unwrap();
     assert!(refused(&line).0.contains("no vector in it"));
-    fs::remove_dir_all(folder).unwrap();
+    fs::remove_file(file).unwrap();
     assert_eq!(refused(&line).1, 1);
 }

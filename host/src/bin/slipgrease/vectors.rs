@@ -7,6 +7,7 @@ use crate::words::{with_words, Words};
 use slipgrease::{Block, Offset, Refusal, Schedule, Step};
 use std::fs;
 use std::io::Write;
+use std::time::Duration;
 
 struct Vector {
     line: usize,
@@ -22,7 +23,7 @@ pub fn vectors(words: &mut Words, out: &mut dyn Write) -> Result<(), Fault> {
     words.end()?;
     let text = fs::read_to_string(&file).map_err(|error| Fault::caller(format!("{file}: {error}")))?;
     let vectors = read(&file, &text)?;
-    let mut progress = Progress::start("vectors", vectors.len());
+    let mut progress = Progress::start(Duration::from_millis(100));
     let (mut compared, mut differ) = (0, 0);
     for (done, vector) in vectors.iter().enumerate() {
         for (what, given, expected) in made(vector, step) {
@@ -33,7 +34,7 @@ pub fn vectors(words: &mut Words, out: &mut dyn Write) -> Result<(), Fault> {
                 writeln!(out, "{file}, line {}, {what}: made {given}, expected {expected}", vector.line)?;
             }
         }
-        progress.at(done + 1);
+        progress.at(|_| format!("{} of {} vectors", done + 1, vectors.len()));
     }
     drop(progress);
     writeln!(out, "vectors {}, compared {compared}, differ {differ}", vectors.len())?;

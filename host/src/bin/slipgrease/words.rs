@@ -3,6 +3,7 @@
 use crate::fault::Fault;
 use crate::hex;
 use slipgrease::{Refusal, Step};
+use std::ffi::OsString;
 use std::io::BufRead;
 
 /// Bytes, what they are called and where they were read.
@@ -46,7 +47,7 @@ const FORM_RETIRED: &str =
 
 pub struct Words<'a> {
     command: &'a str,
-    left: Vec<String>,
+    left: Vec<OsString>,
     taken: usize,
     input: &'a mut dyn BufRead,
     waiting: Vec<String>,
@@ -54,7 +55,7 @@ pub struct Words<'a> {
 }
 
 impl<'a> Words<'a> {
-    pub fn new(command: &'a str, words: &[String], input: &'a mut dyn BufRead) -> Words<'a> {
+    pub fn new(command: &'a str, words: &[OsString], input: &'a mut dyn BufRead) -> Words<'a> {
         Words { command, left: words.to_vec(), taken: 0, input, waiting: Vec::new(), read: 0 }
     }
 
@@ -68,8 +69,13 @@ impl<'a> Words<'a> {
 
     /// The word behind an option, if the option is there.
     pub fn option(&mut self, name: &'static str) -> Result<Option<String>, Fault> {
+        self.file_of(name)?.map(|word| text(word, &format!("option --{name}"))).transpose()
+    }
+
+    /// The same of an option that names a file, whose name may be any bytes.
+    pub fn file_of(&mut self, name: &'static str) -> Result<Option<OsString>, Fault> {
         let flag = format!("--{name}");
-        let place = match self.left.iter().position(|word| *word == flag) {
+        let place = match self.left.iter().position(|word| *word == *flag) {
             Some(place) => place,
             None => return Ok(None),
         };
@@ -85,7 +91,7 @@ impl<'a> Words<'a> {
     /// Whether an option is there that has no word behind it.
     pub fn flag(&mut self, name: &'static str) -> Result<bool, Fault> {
         let flag = format!("--{name}");
-        let place = self.left.iter().position(|word| *word == flag);
+        let place = self.left.iter().position(|word| *word == *flag);
         if let Some(place) = place {
             self.left.remove(place);
             self.given_once(&flag)?;
@@ -94,8 +100,8 @@ impl<'a> Words<'a> {
     }
 
     /// No second one may be left where one was taken.
-    fn given_once(&self, flag: &String) -> Result<(), Fault> {
-        match self.left.contains(flag) {
+    fn given_once(&self, flag: &str) -> Result<(), Fault> {
+        match self.left.iter().any(|word| word == flag) {
             true => Err(self.usage(format!("{flag} is given twice"))),
             false => Ok(()),
         }
@@ -131,17 +137,25 @@ impl<'a> Words<'a> {
         number.map_or(Ok(Step::ONE), |number| Step::new(number.value).map_err(|refusal| number.refused(refusal)))
     }
 
+    /// The next argument, if one is left.
+    pub fn argument(&mut self) -> Result<Option<OsString>, Fault> {
+        let mut options =
+            self.left.iter().map(|word| word.to_string_lossy()).filter(|word| word.starts_with('-') && *word != "-");
+        match options.next().as_deref() {
+            Some("--form") => return Err(Fault::caller(FORM_RETIRED)),
+            Some(option) => return Err(self.usage(format!("no option {option} here"))),
+            None if self.left.is_empty() => return Ok(None),
+            None => (),
+        }
+        self.taken += 1;
+        Ok(Some(self.left.remove(0)))
+    }
+
     /// The next argument, or the next word of standard input where there is none left.
     pub fn word(&mut self, what: &str) -> Result<(String, String), Fault> {
-        if let Some(option) = self.left.iter().find(|word| word.starts_with('-') && word.len() > 1) {
-            return Err(match option.as_str() {
-                "--form" => Fault::caller(FORM_RETIRED),
-                _ => self.usage(format!("no option {option} here")),
-            });
-        }
-        if !self.left.is_empty() {
-            self.taken += 1;
-            return Ok((self.left.remove(0), format!("argument {}", self.taken)));
+        if let Some(word) = self.argument()? {
+            let place = format!("argument {}", self.taken);
+            return Ok((text(word, &place)?, place));
         }
         while self.waiting.is_empty() {
             let mut line = String::new();
@@ -158,6 +172,11 @@ impl<'a> Words<'a> {
     pub fn bytes(&mut self, what: &'static str) -> Result<Given, Fault> {
         let (word, place) = self.word(what)?;
         given(what, place, &word)
+    }
+
+    /// Standard input, for a command that takes other things than words from it.
+    pub fn input(&mut self) -> &mut dyn BufRead {
+        self.input
     }
 
     /// All of standard input, where there is no argument.
@@ -200,7 +219,7 @@ impl<'a> Words<'a> {
     /// All that was given must have been used.
     pub fn end(&mut self) -> Result<(), Fault> {
         match self.left.first() {
-            Some(word) => Err(self.usage(format!("{word} is one word too many"))),
+            Some(word) => Err(self.usage(format!("{} is one word too many", word.to_string_lossy()))),
             None => Ok(()),
         }
     }
@@ -212,6 +231,11 @@ pub fn given(what: &'static str, place: String, word: &str) -> Result<Given, Fau
         Ok(bytes) => Ok(Given { what, place, bytes }),
         Err(wrong) => Err(Fault::caller(format!("{what}, {place}: {wrong}"))),
     }
+}
+
+/// A word that is no name of a file.
+fn text(word: OsString, place: &str) -> Result<String, Fault> {
+    word.into_string().map_err(|_| Fault::caller(format!("{place}: not in UTF-8")))
 }
 
 /// A decimal number. One that no byte holds goes on as 255, which is as much out of range.
