@@ -1,7 +1,7 @@
 -- Uniqueness: whatever the arguments, a call's promise allows one result. Each statement is about the call's own promise, the
 -- `Post` that the check reads off its contract.
 -- Assumes nothing.
-use mathlib.Core.Path.{_≡_, refl, sym, _∙_}
+use mathlib.Core.Path.{_≡_, sym, _∙_}
 use mathlib.Core.List.{List}
 use Prim.Native.Nat.{ℕ}
 use Rattle.aes.specs.declared.reply.Valued.{Valued}
@@ -14,7 +14,6 @@ use Rattle.aes.proofs.field.power.Reads as power
 use Rattle.aes.proofs.key.expand_key.Reads as expand-key
 use Rattle.aes.proofs.record.record_plain.Reads as record-plain
 use Rattle.aes.proofs.state.add.Reads as add
-use Rattle.aes.proofs.state.copy.Reads as copy
 use Rattle.aes.proofs.state.inv_mix_columns.Reads as inv-mix-columns
 use Rattle.aes.proofs.state.inv_shift_rows.Reads as inv-shift-rows
 use Rattle.aes.proofs.state.mix_columns.Reads as mix-columns
@@ -86,9 +85,6 @@ decrypt-unique κs args e f x y p q = both x y _ _ _ p q
 
 pub record-plain-unique : UniqueWriting record-plain.Post (λ κs e. e .1 .1 .0 .now)
 record-plain-unique κs args e f x y p q = both x y _ _ _ p q
-
-pub copy-unique : UniqueWriting copy.Post (λ κs e. e .1 .0 .now)
-copy-unique κs args e f x y p q = (refl, p ∙ sym q)
 
 pub add-unique : Unique add.Post
 add-unique κs args exit x y p q = p ∙ sym q

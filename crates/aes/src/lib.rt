@@ -17,7 +17,6 @@ pub use field::power;
 pub use key::expand_key;
 pub use record::record_plain;
 pub use state::add;
-pub use state::copy;
 pub use state::inv_mix_columns;
 pub use state::inv_shift_rows;
 pub use state::mix_columns;

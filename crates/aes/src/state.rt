@@ -129,8 +129,7 @@ pub(crate) fn put(s: [u8; 16], lent: &mut [u8]) -> [u8; 16]
     s
 }
 
-// Public for the crates above. It alone of the public functions here asks something: that both lengths are the same.
-pub fn copy(from: &[u8], to: &mut [u8])
+pub(crate) fn copy(from: &[u8], to: &mut [u8])
     requires { ⌜ length (now to) ≡ length (now from) ⌝ }
     ensures { λ _. ⌜ now (to .exit) ≡ now (from .entry) ⌝ }
 {

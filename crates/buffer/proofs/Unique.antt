@@ -4,6 +4,7 @@ use mathlib.Core.Path.{refl, sym, _∙_}
 use Rattle.aes.proofs.Unique.{Unique, UniqueWriting, both}
 use Rattle.buffer.proofs.ends.handed_out.Reads as handed-out
 use Rattle.buffer.proofs.ends.laid.Reads as laid
+use Rattle.buffer.proofs.values.copy.Reads as copy
 use Rattle.buffer.proofs.values.counted.Reads as counted
 use Rattle.buffer.proofs.values.gather.Reads as gather
 use Rattle.buffer.proofs.values.scatter.Reads as scatter
@@ -19,6 +20,9 @@ handed-out-unique κs args e f x y p q = both x y _ _ _ p q
 
 pub scatter-unique : UniqueWriting scatter.Post (λ κs e. e .1 .0 .now)
 scatter-unique κs args e f x y p q = (refl, p ∙ sym q)
+
+pub copy-unique : UniqueWriting copy.Post (λ κs e. e .1 .0 .now)
+copy-unique κs args e f x y p q = (refl, p ∙ sym q)
 
 pub laid-unique : UniqueWriting laid.Post (λ κs e. e .1 .0 .now)
 laid-unique κs args e f x y p q = (refl, p ∙ sym q)

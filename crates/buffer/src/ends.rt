@@ -7,7 +7,7 @@ ghost use lib.ListN.{length, getD};
 ghost use Rattle.aes.specs.Byte.{below};
 ghost use Rattle.aes.specs.Reply.{answer, isIntact};
 ghost use Rattle.buffer.specs.Wrap.{initial};
-use aes::copy;
+use crate::values::copy;
 use aes::reply;
 
 const INITIAL: u8 = 0xa6;

@@ -4,6 +4,7 @@ mod values;
 
 pub use ends::handed_out;
 pub use ends::laid;
+pub use values::copy;
 pub use values::counted;
 pub use values::gather;
 pub use values::scatter;

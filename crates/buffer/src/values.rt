@@ -4,7 +4,6 @@ ghost use mathlib.Core.List.{_++_};
 ghost use Prim.Native.Nat.{_+_, _*_, _≤_, _<_};
 ghost use lib.ListN.{length, take, drop};
 ghost use Rattle.buffer.specs.Wrap.{counted, value, withValues};
-use aes::copy;
 
 // A | R[i].
 pub fn gather(buffer: &[u8], i: usize) -> [u8; 16]
@@ -38,4 +37,15 @@ pub fn scatter(b: [u8; 16], buffer: &mut [u8], i: usize)
     let e = a + 8;
     copy(&b[0..8], &mut buffer[0..8]);
     copy(&b[8..16], &mut buffer[a..e]);
+}
+
+pub fn copy(from: &[u8], to: &mut [u8])
+    requires { ⌜ length (now to) ≡ length (now from) ⌝ }
+    ensures { λ _. ⌜ now (to .exit) ≡ now (from .entry) ⌝ }
+{
+    let mut i = 0;
+    while i < from.len() {
+        to[i] = from[i];
+        i += 1;
+    }
 }

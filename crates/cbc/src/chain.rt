@@ -5,7 +5,6 @@ ghost use Prim.Native.Nat.{_+_, _*_, _≤_};
 ghost use lib.ListN.{length, take, drop};
 ghost use Rattle.cbc.specs.Cbc.{link, cbc};
 use aes::add;
-use aes::copy;
 
 pub fn cbc(back: bool, schedule: &[u8], start: [u8; 16], input: &[u8], output: &mut [u8], n: usize)
     requires { ⌜ (length (now schedule) ≡ 240) × (n ≤ 11) × (length (now input) ≡ 16 * n) × (length (now output) ≡ 16 * n) ⌝ }
@@ -59,4 +58,15 @@ pub fn sixteen_at(lent: &[u8], a: usize) -> [u8; 16]
         i += 1;
     }
     r
+}
+
+pub fn copy(from: &[u8], to: &mut [u8])
+    requires { ⌜ length (now to) ≡ length (now from) ⌝ }
+    ensures { λ _. ⌜ now (to .exit) ≡ now (from .entry) ⌝ }
+{
+    let mut i = 0;
+    while i < from.len() {
+        to[i] = from[i];
+        i += 1;
+    }
 }

@@ -2,4 +2,5 @@
 mod chain;
 
 pub use chain::cbc;
+pub use chain::copy;
 pub use chain::sixteen_at;

@@ -11,8 +11,8 @@ use crate::header::is_long;
 use crate::header::pid_of;
 use crate::pipes::pipe_of;
 use crate::whole::changed;
-use aes::copy;
 use aes::reply;
+use cbc::copy;
 
 pub(crate) fn answered(back: bool, packet: &[u8], out: &mut [u8], pipes: &[u8], odd: bool) -> u8
     requires { ⌜ (length (now packet) ≡ 188) × (length (now out) ≡ 188) × (length (now pipes) ≡ 3486) ⌝ }

@@ -5,8 +5,8 @@ ghost use Prim.Native.Nat.{_+_, _*_, _≤_, _<_};
 ghost use lib.ListN.{length};
 ghost use Rattle.packet.specs.Packet.{start, withBits, changed};
 use crate::header::start_of;
-use aes::copy;
 use cbc::cbc;
+use cbc::copy;
 use cbc::sixteen_at;
 
 pub(crate) fn changed(

@@ -1,19 +1,17 @@
 -- CBC is undone, block by block, over any codebook and its inverse.
 -- Assumes nothing.
 use mathlib.Core.Path.{_≡_, refl, ap, ap₂, sym, _∙_}
-use mathlib.Core.List.{List, [], _∷_, _++_}
+use mathlib.Core.List.{List}
 use Prim.Native.Nat.{ℕ, zero, suc, _+_, _*_, _/_, _≤_, _<_}
-use native.Mathlib.Nat.{zero-add, suc-add}
 use native.Mathlib.Omega.{arith}
 use native.Mathlib.Decide.{decLt}
 use lib.Dec.{lit<}
-use lib.ListN.{length, take, drop}
-use lib.Seq.{take-all, take-nil, getD-take, getD-drop}
+use lib.ListN.{length, take, drop, length-take, List·getD-eq-default}
+use lib.Seq.{take-all, take-add, getD-take, getD-drop}
 use Rattle.aes.specs.Byte.{listed, table}
-use Rattle.aes.specs.State.{at, addRoundKey, Bytes}
-use Rattle.aes.proofs.Xor.{xor-assoc, xor-self, xor-zero}
+use Rattle.aes.specs.State.{at, Bytes}
 use Rattle.aes.proofs.Listed.{table-same}
-use Rattle.aes.proofs.Undo.{state-at, add-bytes}
+use Rattle.aes.proofs.Undo.{state-at, add-bytes, add-twice}
 use Rattle.masks.specs.Mask.{_⊞_, inRow}
 use Rattle.masks.proofs.Row.{row-size, row-at, row-same}
 use Rattle.masked.specs.Calls.{blockAt}
@@ -35,41 +33,27 @@ row-block f h n j lt =
     entries : listed (λ x. at (inRow f n) (16 * j + x)) 0 16 ≡ f j
     entries = rows ∙ state-at (f j) (h j)
 
-sum-twice : (a b : List ℕ) → length a ≡ 16 → a ⊞ b ⊞ b ≡ a
-unfolding addRoundKey
-sum-twice a b l = simp (xor-assoc, xor-self, xor-zero) (state-at a l)
-
-take-more : (m k : ℕ) (l : List ℕ) → take (m + k) l ≡ take m l ++ take k (drop m l)
-take-more zero k l = rw zero-add
-take-more (suc m) k [] = rw (suc-add, take-nil k)
-take-more (suc m) k (x ∷ l) = rw suc-add (ap (λ (r : List ℕ). x ∷ r) (take-more m k l))
-
 row-take : (xs : List ℕ) (n : ℕ) → 16 * n ≤ length xs → inRow (λ j. blockAt j xs) n ≡ take (16 * n) xs
 unfolding inRow
 row-take xs zero h = refl
 row-take xs (suc n) h =
     let e : 16 * suc n ≡ 16 * n + 16 = omega arith in
-    rw (e, row-take xs n (omega arith)) (sym (take-more (16 * n) 16 xs))
+    rw (e, row-take xs n (omega arith)) (sym (take-add (16 * n) 16 xs))
 
 -- a row of all its blocks is the list
 pub row-all : (xs : List ℕ) (n : ℕ) → length xs ≡ 16 * n → inRow (λ j. blockAt j xs) n ≡ xs
 row-all xs n l = row-take xs n (omega (arith, l)) ∙ take-all (16 * n) xs (omega (arith, l))
 
-beyond : (l : List ℕ) (i : ℕ) → length l ≤ i → at l i ≡ 0
-beyond [] i h = refl
-beyond (x ∷ l) zero h = absurd (omega arith)
-beyond (x ∷ l) (suc i) h = beyond l i (omega arith)
+-- a part of bytes is of bytes
+pub part-byte : (m a : ℕ) (xs : List ℕ) → ((i : ℕ) → at xs i < 256) → (i : ℕ) → at (take m (drop a xs)) i < 256
+part-byte m a xs h i =
+    elim (decLt i m) [
+      | yes lt ↦ rw (getD-take m (drop a xs) i 0 lt, getD-drop a xs i 0) (h (a + i))
+      | no ge ↦ rw (List·getD-eq-default (take m (drop a xs)) 0 {n = i} (rw length-take (omega arith))) (lit< tt)
+    ]
 
-pub block-bytes : (k : ℕ) (xs : List ℕ) → ((i : ℕ) → at xs i < 256) → 16 * k + 16 ≤ length xs → Bytes 16 (blockAt k xs)
-block-bytes k xs h room =
-    record {
-      size = part-size (16 * k) xs room;
-      byte = λ i.
-          elim (decLt i 16) [
-            | yes l ↦ rw (getD-take 16 (drop (16 * k) xs) i 0 l, getD-drop (16 * k) xs i 0) (h (16 * k + i))
-            | no l ↦ rw (beyond (blockAt k xs) i (let s : length (blockAt k xs) ≡ 16 = part-size (16 * k) xs room in omega arith)) (lit< tt)
-          ];
-    }
+block-bytes : (k : ℕ) (xs : List ℕ) → ((i : ℕ) → at xs i < 256) → 16 * k + 16 ≤ length xs → Bytes 16 (blockAt k xs)
+block-bytes k xs h room = record { size = part-size (16 * k) xs room; byte = part-byte 16 (16 * k) xs h }
 
 -- CBC is undone, block by block
 module _ {E D : List ℕ → List ℕ} (c : Undone E D) (start plain : List ℕ) (n : ℕ) (l : length plain ≡ 16 * n) (first : Bytes 16 start) (h : (i : ℕ) → at plain i < 256) where
@@ -94,7 +78,7 @@ module _ {E D : List ℕ → List ℕ} (c : Undone E D) (start plain : List ℕ)
       ap₂ (λ (b d : List ℕ). D b ⊞ d) (row-block (links E start plain) chain-size n j lt) (earlier j lt)
       ∙ ap (λ (b : List ℕ). b ⊞ chained E start plain j)
       (c .undo (add-bytes (block-bytes j plain h (omega (arith, l))) (chain-bytes j (omega arith))))
-      ∙ sum-twice (blockAt j plain) (chained E start plain j) (part-size (16 * j) plain (omega (arith, l)))
+      ∙ add-twice (chained E start plain j) (block-bytes j plain h (omega (arith, l)))
 
   pub cbc-size : length (cbcEncrypted E start plain) ≡ 16 * n
   unfolding cbcEncrypted

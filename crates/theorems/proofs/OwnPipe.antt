@@ -7,7 +7,7 @@ use Prim.Native.Nat.{ℕ, zero, suc, _+_, _-_, _*_, _≤_, _<_}
 use native.Mathlib.Omega.{arith}
 use lib.Dec.{eqb, leb}
 use lib.ListN.{length, take, drop}
-use lib.Seq.{drop-drop, take-nil}
+use lib.Seq.{drop-drop, take-nil, take-take}
 use Rattle.aes.specs.Byte.{below, place}
 use Rattle.aes.specs.Reply.{_else_, answer, arePackets, isSynced}
 use Rattle.aes.proofs.Listed.{table-same}
@@ -18,12 +18,6 @@ use Rattle.packet.specs.Pid.{assignable}
 use Rattle.packet.specs.Calls.{arePipes, scrambleOf, descrambleOf}
 
 -- a part of a part
-take-take : (m n : ℕ) (xs : List ℕ) → m ≤ n → take m (take n xs) ≡ take m xs
-take-take zero n xs h = refl
-take-take (suc m) zero xs h = absurd (omega arith)
-take-take (suc m) (suc n) [] h = refl
-take-take (suc m) (suc n) (x ∷ xs) h = ap (λ (l : List ℕ). x ∷ l) (take-take m n xs (omega arith))
-
 drop-take : (c n : ℕ) (xs : List ℕ) → drop c (take n xs) ≡ take (n - c) (drop c xs)
 drop-take zero n xs = let e : n ≡ n - 0 = omega arith in ap (λ (k : ℕ). take k xs) e
 drop-take (suc c) zero xs = let e : 0 ≡ 0 - suc c = omega arith in ap (λ (k : ℕ). take k (drop (suc c) xs)) e

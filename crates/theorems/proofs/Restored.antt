@@ -2,20 +2,20 @@
 -- Assumes nothing.
 use mathlib.Core.Path.{_≡_, refl, ap, ap₂, sym, _∙_}
 use mathlib.Core.Bool.{Bool, true, false, _&&_, _||_}
-use mathlib.Core.List.{List, [], _∷_, _++_, append-assoc}
-use Prim.Native.Nat.{ℕ, zero, suc, _+_, _-_, _*_, _/_, _%_, _≤_, _<_}
+use mathlib.Core.List.{List, _++_, append-assoc}
+use Prim.Native.Nat.{ℕ, _+_, _-_, _*_, _/_, _%_, _≤_, _<_}
 use native.Mathlib.Omega.{arith}
 use native.Mathlib.Decide.{decLt, ℕ-discrete}
 use borrow.Author.Tests.{eq-eqb, ne-eqb}
-use lib.Dec.{eqb, leb, lit<, lit≤}
-use lib.ListN.{length, take, drop, length-set, length-append, length-take, length-drop, List·getD-append}
+use lib.Dec.{eqb, leb, lit≤}
+use lib.ListN.{length, take, drop, length-set, length-append, length-drop, List·getD-append}
 use lib.Seq.{ext-getD, getD-set-same, getD-set-other, take-at, drop-at, length-take-le, getD-take, getD-drop, getD-append-add}
 use Rattle.aes.specs.State.{at, Bytes}
 use Rattle.aes.specs.Cipher.{cipher, invCipher}
 use Rattle.cbc.specs.Cbc.{cbcEncrypted, cbcDecrypted}
 use Rattle.packet.specs.Packet.{pid, scrambling, adaptation, fieldRight, start, blocks, payload, withPayload, withBits, parity, scheduleAt, startingBlock, changed, scrambled, descrambled}
 use Rattle.packet.proofs.Splice.{low, set-bits}
-use Rattle.theorems.proofs.CbcTrip.{cbc-size, cbc-undone}
+use Rattle.theorems.proofs.CbcTrip.{part-byte, cbc-size, cbc-undone}
 use Rattle.theorems.proofs.KeyWrap.{sealing}
 use Rattle.theorems.proofs.WrapTrip.{Undone}
 
@@ -131,19 +131,6 @@ module _ (k m b : ℕ) (body p : List ℕ) (l : length p ≡ 188) (low : 4 ≤ k
                   ]
             ]
       ])
-
--- a part of bytes is of bytes
-beyond : (l : List ℕ) (i : ℕ) → length l ≤ i → at l i ≡ 0
-beyond [] i h = refl
-beyond (x ∷ l) zero h = absurd (omega arith)
-beyond (x ∷ l) (suc i) h = beyond l i (omega arith)
-
-part-byte : (m a : ℕ) (xs : List ℕ) → ((i : ℕ) → at xs i < 256) → (i : ℕ) → at (take m (drop a xs)) i < 256
-part-byte m a xs h i =
-    elim (decLt i m) [
-      | yes lt ↦ rw (getD-take m (drop a xs) i 0 lt, getD-drop a xs i 0) (h (a + i))
-      | no ge ↦ rw (beyond (take m (drop a xs)) i (rw length-take (omega arith))) (lit< tt)
-    ]
 
 start-one : (p : List ℕ) → adaptation p ≡ 1 → start p ≡ 4
 unfolding start

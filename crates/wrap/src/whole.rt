@@ -9,7 +9,7 @@ ghost use Rattle.wrap.specs.Engines.{offsetOf, sealed, opened};
 use crate::engine::Engine;
 use crate::steps::unwrap_steps;
 use crate::steps::wrap_steps;
-use aes::copy;
+use buffer::copy;
 use buffer::handed_out;
 use buffer::laid;
 
