@@ -1,20 +1,16 @@
-# make run does the main job by the desk tool; make test runs every check of the project, the gate last; make lib leaves the proved
-# library in build/, make install puts it under PREFIX with its header and its pkg-config file, and make uninstall removes them;
-# make bench measures it beside C and other libraries, which make bench-deps installs; make worked shows worked examples by a proved
-# program; make soak compares the library with the second program for so many MINUTES, or without end; make peers compares it with
-# other implementations, which make peers-deps installs, on COUNT cases of each size from a SEED, and has others read a stream that
-# ffmpeg makes.
-.PHONY: run test lib install uninstall bench bench-deps worked soak peers peers-deps
+# What each command does stands behind ## in its line, where make help reads it. Without a name make does what make run does.
+.PHONY: run test help deps lib install uninstall clean worked bench bench-deps peers peers-deps soak
 
 PREFIX = /usr/local
 
-run:
+run: ## makes a pipe's key at the rack and in the module, at sixteen offsets, on the example of FIPS 197
 	@tools/kit >&2
 	@tools/run
 
-test:
+test: ## runs every check of the project, the gate last
 	@tools/kit
 	@tools/ready
+	@tools/lib-test
 	@tools/sources-test
 	@tools/sources
 	@tools/cites-test
@@ -23,37 +19,52 @@ test:
 	@tools/trace
 	@tools/header-test
 	@tools/header
+	@tools/replies-test
+	@tools/replies
+	@tools/pages-test
+	@tools/pages
 	@rt fmt --check
 	@tools/gate
 
-lib:
+help: ## lists these commands
+	@awk -F ':[^#]*## ' '/^[a-z-]+:.*## / { printf "make %-12s%s\n", $$1, $$2 }' Makefile
+
+deps: ## installs what make run, make test and make install need beside the Rattle kit, or says what it is
+	@tools/kit
+	@tools/ready && echo 'Everything that make run, make test and make install need is here.'
+
+lib: ## proves the library and leaves it in build/libslipgrease.a
 	@tools/kit >&2
 	@tools/lib && echo build/libslipgrease.a
 
-install: lib
+install: ## installs library, header, desk tool, manual pages and completion under PREFIX, /usr/local unless named; DESTDIR too
+	@tools/kit >&2
 	@tools/put '$(PREFIX)' '$(DESTDIR)'
 
-uninstall:
+uninstall: ## removes what make install installed under PREFIX
 	@tools/put --remove '$(PREFIX)' '$(DESTDIR)'
 
-worked:
+clean: ## removes all that was proved and built
+	@rm -rf build target host/target
+
+worked: ## shows worked examples of the field and the rack's rounds, by a proved program
 	@tools/kit >&2
 	@tools/worked
 
-soak:
-	@tools/kit >&2
-	@tools/soak $(MINUTES)
-
-bench:
+bench: ## measures the library beside C translations of its steps, other libraries and the desk tool
 	@tools/kit >&2
 	@tools/bench
 
-bench-deps:
+bench-deps: ## installs what make bench compares with
 	@tools/bench-deps
 
-peers:
+peers: ## compares key wrap and packets with other implementations, on COUNT cases of each size from a SEED
 	@tools/kit >&2
 	@tools/peers '$(SEED)' '$(COUNT)'
 
-peers-deps:
+peers-deps: ## installs the other implementations for make peers
 	@tools/peers-deps
+
+soak: ## compares the library with the second program, seed after seed, for so many MINUTES or without end
+	@tools/kit >&2
+	@tools/soak $(MINUTES)

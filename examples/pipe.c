@@ -76,7 +76,8 @@ static void session_change(const uint8_t *schedule)
     for (size_t pipe = 0; pipe < PIPES; pipe++)
         blocks[pipe * SLIPGREASE_BLOCK_BYTES] = (uint8_t)pipe;
     uint8_t reply = slipgrease_encrypt_blocks(
-        schedule, SLIPGREASE_SCHEDULE_BYTES, blocks, sizeof blocks, keys, sizeof keys, offsets, sizeof offsets, STEP, 0);
+        schedule, SLIPGREASE_SCHEDULE_BYTES, blocks, sizeof blocks, keys, sizeof keys, offsets, sizeof offsets, STEP,
+        SLIPGREASE_FORM_STANDARD);
     must_be_done(reply, "encrypt_blocks");
     for (size_t at = 0; at < sizeof blocks; at += SLIPGREASE_BLOCK_BYTES) {
         uint8_t rack[SLIPGREASE_BLOCK_BYTES];
@@ -109,7 +110,7 @@ int main(void)
         uint8_t module[SLIPGREASE_BLOCK_BYTES] = {0};
         char name[32];
         reply = slipgrease_encrypt_published(
-            schedule, sizeof schedule, block, sizeof block, module, sizeof module, offset, STEP, 0);
+            schedule, sizeof schedule, block, sizeof block, module, sizeof module, offset, STEP, SLIPGREASE_FORM_STANDARD);
         must_be_done(reply, "encrypt_published");
         must(same(module, rack), "the module makes the key of the rack");
         snprintf(name, sizeof name, "module, offset %d", offset);
@@ -118,14 +119,16 @@ int main(void)
 
     /* In a module of the other series: other masks from the first boxes on, and the same key. */
     uint8_t other[SLIPGREASE_BLOCK_BYTES] = {0};
-    reply = slipgrease_encrypt_published(schedule, sizeof schedule, block, sizeof block, other, sizeof other, 3, OTHER_STEP, 0);
+    reply = slipgrease_encrypt_published(
+        schedule, sizeof schedule, block, sizeof block, other, sizeof other, 3, OTHER_STEP, SLIPGREASE_FORM_STANDARD);
     must_be_done(reply, "encrypt_published, step 5");
     must(same(other, rack), "a module of the other series makes the key of the rack");
     print_block("module, step 5", other);
 
     /* There is no offset 16. The call is refused with a number of its own, and its buffer is as it was. */
     uint8_t refused[SLIPGREASE_BLOCK_BYTES] = {0}, zeros[SLIPGREASE_BLOCK_BYTES] = {0};
-    reply = slipgrease_encrypt_published(schedule, sizeof schedule, block, sizeof block, refused, sizeof refused, 16, STEP, 0);
+    reply = slipgrease_encrypt_published(
+        schedule, sizeof schedule, block, sizeof block, refused, sizeof refused, 16, STEP, SLIPGREASE_FORM_STANDARD);
     must(reply == SLIPGREASE_REPLY_OFFSET_RANGE, "offset 16 is refused with its own number");
     must(slipgrease_sort_reply(reply) == SLIPGREASE_CALLER_FAULT, "a wrong offset is a caller fault");
     must(same(refused, zeros), "a refused call has written nothing");
@@ -139,5 +142,11 @@ int main(void)
     print_block("form 1, offset 5", stored);
     print_block("form 1, converted", converted);
     session_change(schedule);
+
+    /* What was printed may still be in a buffer: only now is it known whether all of it could be written. */
+    if (fflush(stdout) != 0 || ferror(stdout)) {
+        fprintf(stderr, "what was printed could not be written\n");
+        return EXIT_FAILURE;
+    }
     return EXIT_SUCCESS;
 }

@@ -1,14 +1,37 @@
-//! The C names of libslipgrease.a over slices, with the reply numbers as the library gives them: for who wants just these. This
-//! file alone has `unsafe`.
+//! The C names of libslipgrease.a over slices, with the reply numbers as the library gives them, for those who want just these.
+//! This file alone has `unsafe`.
 //!
 //! A slice goes as a pointer and a length. A call reads and writes within the slices that it is lent and asks nothing else of its
 //! caller, so that each function here is safe. Each is described under its name in the crate itself.
+//!
+//! A reply that is not looked at may be a refusal, which has written nothing, so the compiler warns of it:
+//!
+//! ```compile_fail
+//! #![deny(unused_must_use)]
+//! slipgrease::calls::encrypt(&[0; 240], &[0; 15], &mut [0; 16]);
+//! ```
+//!
+//! ```
+//! #![deny(unused_must_use)]
+//! assert_eq!(slipgrease::calls::encrypt(&[0; 240], &[0; 15], &mut [0; 16]), 3);
+//! ```
 
 #![allow(missing_docs)]
+
+use std::sync::atomic::{compiler_fence, Ordering};
+
+/// Overwrites bytes with zeros that the compiler may not leave out, though nobody reads them.
+pub(crate) fn wipe(bytes: &mut [u8]) {
+    for byte in bytes {
+        unsafe { std::ptr::write_volatile(byte, 0) };
+    }
+    compiler_fence(Ordering::SeqCst);
+}
 
 /// Makes of each C name a safe function over slices.
 macro_rules! calls {
     ($($c_name:ident as $name:ident($($parameters:tt)*) -> $answer:ty;)*) => {$(
+        #[must_use = "a refused call has written nothing"]
         pub fn $name($($parameters)*) -> $answer {
             call!($c_name -> $answer, () () $($parameters)*)
         }

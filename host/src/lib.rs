@@ -33,10 +33,14 @@
 //! pieces of any length: [`Stream`] gives each packet to a function, and [`PacketWriter`] writes them.
 //!
 //! What is proved is the code behind the C names. This crate adds no cipher of its own: a file of declarations, `calls.rs`, which
-//! alone has `unsafe`, and types around it. No claim is made about power or time. No offset is drawn here: every one comes from
-//! the caller.
+//! alone has `unsafe`, and types around it. No claim is made about power or time; the code is not constant-time: boxes are read at
+//! places that depend on the covered state. No offset is drawn here: every one comes from the caller.
+//!
+//! A [`Schedule`], a [`Record`] and [`Pipes`] are wiped when they are dropped, and so is what a [`Stream`] and the calls here work
+//! with. What the library leaves on the stack is not wiped, nor is what a call gives back as an array or a vector: that is the
+//! caller's.
 
-#![deny(missing_docs, unsafe_code)]
+#![deny(missing_docs, missing_debug_implementations, unsafe_code)]
 
 #[allow(unsafe_code)]
 pub mod calls;
@@ -46,15 +50,18 @@ mod record;
 mod refusal;
 mod schedule;
 mod slices;
+mod text;
+mod wiped;
 mod wrap;
 
 pub use crate::masks::{Masks, Offset, Step};
 pub use crate::packets::{Packet, PacketWriter, Parity, Pipe, Pipes, RefusedPacket, Stream, Way};
 pub use crate::record::{Direction, Point, Record, Stage};
-pub use crate::refusal::{sort_reply, Fault, Refusal};
+pub use crate::refusal::{sort_reply, Fault, Refusal, UnknownReply};
 pub use crate::schedule::{Block, Schedule};
 pub use crate::slices::{
     convert, decrypt, decrypt_masked, decrypt_published, descramble, encrypt, encrypt_blocks, encrypt_masked, encrypt_published,
     expand_key, fitness, inverse, logarithm, masked_inverse, multiply, power, read_sheet, record_masked,
     record_masked_decryption, record_plain, scramble, unwrap, unwrap_masked, wrap, wrap_masked, write_sheet,
 };
+pub use crate::text::ParseError;

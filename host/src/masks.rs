@@ -13,7 +13,7 @@ use crate::slices;
 /// assert!(!Masks::new([7; 16]).are_fit());
 /// assert_eq!(Masks::try_from(&[7; 15][..]), Err(Refusal::MasksLength));
 /// ```
-#[derive(Clone, Copy, Debug, PartialEq, Eq)]
+#[derive(Clone, Copy, Debug, PartialEq, Eq, PartialOrd, Ord, Hash)]
 pub struct Masks([u8; 16]);
 
 impl Masks {
@@ -53,6 +53,7 @@ impl Masks {
     /// assert_eq!((sheet.len(), sheet[4], sheet[21]), (22, 2, 5));
     /// assert_eq!(Masks::from_sheet(&sheet), Ok((Masks::PUBLISHED, step)));
     /// ```
+    #[must_use]
     pub fn to_sheet(&self, step: Step) -> Vec<u8> {
         let mut sheet = vec![0; if step == Step::ONE { 21 } else { 22 }];
         slices::write_sheet(&self.0, step.number(), &mut sheet).expect("step and lengths are right");
@@ -60,12 +61,25 @@ impl Masks {
     }
 
     /// Whether they are fit: any three bit positions show each of their eight patterns in exactly two of the masks.
+    #[must_use]
     pub fn are_fit(&self) -> bool {
         slices::fitness(&self.0).expect("the length is right")
     }
 
     /// The sixteen bytes.
     pub fn as_bytes(&self) -> &[u8; 16] {
+        &self.0
+    }
+}
+
+impl From<[u8; 16]> for Masks {
+    fn from(bytes: [u8; 16]) -> Masks {
+        Masks(bytes)
+    }
+}
+
+impl AsRef<[u8]> for Masks {
+    fn as_ref(&self) -> &[u8] {
         &self.0
     }
 }
@@ -122,10 +136,25 @@ impl Offset {
     /// assert_eq!(offset.convert(&stored), standard);
     /// assert_eq!(offset.convert(&standard), stored);
     /// ```
+    #[must_use]
     pub fn convert(self, stored: &Block) -> Block {
         let mut standard = [0; 16];
         slices::convert(stored, &mut standard, self.0).expect("offset and lengths are right");
         standard
+    }
+}
+
+impl TryFrom<u8> for Offset {
+    type Error = Refusal;
+
+    fn try_from(number: u8) -> Result<Offset, Refusal> {
+        Offset::new(number)
+    }
+}
+
+impl From<Offset> for u8 {
+    fn from(offset: Offset) -> u8 {
+        offset.0
     }
 }
 
@@ -165,6 +194,20 @@ impl Step {
     /// Its number.
     pub fn number(self) -> u8 {
         self.0
+    }
+}
+
+impl TryFrom<u8> for Step {
+    type Error = Refusal;
+
+    fn try_from(number: u8) -> Result<Step, Refusal> {
+        Step::new(number)
+    }
+}
+
+impl From<Step> for u8 {
+    fn from(step: Step) -> u8 {
+        step.0
     }
 }
 

@@ -9,6 +9,7 @@ pub use writer::{PacketWriter, RefusedPacket};
 use crate::refusal::Refusal;
 use crate::schedule::{Block, Schedule};
 use crate::slices;
+use crate::wiped::Wiped;
 use std::fmt;
 use std::io::Write;
 
@@ -19,7 +20,7 @@ const LENGTH: usize = 188;
 pub type Packet = [u8; LENGTH];
 
 /// Which of a pipe's two schedules scrambles.
-#[derive(Clone, Copy, Debug, PartialEq, Eq, Hash)]
+#[derive(Clone, Copy, Debug, PartialEq, Eq, PartialOrd, Ord, Hash)]
 pub enum Parity {
     /// The even schedule, which scrambling bits 10 name.
     Even,
@@ -28,7 +29,7 @@ pub enum Parity {
 }
 
 /// What is done with packets.
-#[derive(Clone, Copy, Debug, PartialEq, Eq, Hash)]
+#[derive(Clone, Copy, Debug, PartialEq, Eq, PartialOrd, Ord, Hash)]
 pub enum Way {
     /// They are scrambled, as [`Pipes::scramble`] does.
     Scramble(Parity),
@@ -49,7 +50,7 @@ pub struct Pipe {
     pub start: Block,
 }
 
-/// A list of seven pipes that the library takes: each has a PID of its own, 0010 to 1ffe.
+/// A list of seven pipes that the library takes: each has a PID of its own, 0010 to 1ffe. It is wiped when it is dropped.
 ///
 /// ```
 /// use slipgrease::{Parity, Pipe, Pipes, Refusal, Schedule};
@@ -74,7 +75,10 @@ pub struct Pipe {
 /// # Ok::<(), slipgrease::Refusal>(())
 /// ```
 #[derive(Clone, PartialEq, Eq)]
-pub struct Pipes(Vec<u8>);
+pub struct Pipes(Wiped);
+
+/// How many bytes a list has for each pipe.
+const PIPE: usize = 498;
 
 /// The PID 1fff is in no list, so that of the library's checks a call with this packet meets only the list's.
 const NULL_PACKET: Packet = {
@@ -88,16 +92,21 @@ const NULL_PACKET: Packet = {
 impl Pipes {
     /// The list of seven pipes.
     ///
-    /// Refused: a PID outside 0010 to 1ffe, or one twice.
+    /// Refused: a PID outside 0010 to 1ffe, or the same PID twice.
     pub fn new(pipes: &[Pipe; 7]) -> Result<Pipes, Refusal> {
-        let mut bytes = Vec::new();
-        for Pipe { pid, even, odd, start } in pipes {
-            bytes.extend(pid.to_be_bytes());
-            bytes.extend(even.as_bytes());
-            bytes.extend(odd.as_bytes());
-            bytes.extend(start);
+        let mut bytes = Wiped::zeros(PIPE * pipes.len());
+        for (place, Pipe { pid, even, odd, start }) in bytes.chunks_exact_mut(PIPE).zip(pipes) {
+            place[..2].copy_from_slice(&pid.to_be_bytes());
+            place[2..242].copy_from_slice(even.as_bytes());
+            place[242..482].copy_from_slice(odd.as_bytes());
+            place[482..].copy_from_slice(start);
         }
-        Pipes::try_from(&bytes[..])
+        Pipes::judged(bytes)
+    }
+
+    /// The list, if the library takes it.
+    fn judged(bytes: Wiped) -> Result<Pipes, Refusal> {
+        slices::descramble(&NULL_PACKET, &mut [0; LENGTH], &bytes).map(|()| Pipes(bytes))
     }
 
     /// The 3,486 bytes that the library takes, pipe k from 498 k on: its PID in two bytes, the higher first, its even schedule,
@@ -122,11 +131,13 @@ impl Pipes {
     }
 
     /// A stream of packets that comes in pieces of any length.
+    #[must_use]
     pub fn stream(&self, way: Way) -> Stream<'_> {
         Stream::new(self, way)
     }
 
     /// A writer that takes a stream of packets, in pieces of any length, and writes to `out` what becomes of it.
+    #[must_use]
     pub fn writer<W: Write>(&self, way: Way, out: W) -> PacketWriter<'_, W> {
         PacketWriter::new(self.stream(way), out)
     }
@@ -163,7 +174,7 @@ impl TryFrom<&[u8]> for Pipes {
     type Error = Refusal;
 
     fn try_from(bytes: &[u8]) -> Result<Pipes, Refusal> {
-        slices::descramble(&NULL_PACKET, &mut [0; LENGTH], bytes).map(|()| Pipes(bytes.to_vec()))
+        Pipes::judged(Wiped::from(bytes))
     }
 }
 

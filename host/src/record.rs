@@ -2,10 +2,11 @@
 
 use crate::masks::{Offset, Step};
 use crate::schedule::Block;
+use crate::wiped::Wiped;
 use std::fmt;
 
 /// Which way a run goes.
-#[derive(Clone, Copy, Debug, PartialEq, Eq, Hash)]
+#[derive(Clone, Copy, Debug, PartialEq, Eq, PartialOrd, Ord, Hash)]
 pub enum Direction {
     /// From the plaintext to the ciphertext: 71 states.
     Encryption,
@@ -28,17 +29,49 @@ impl Direction {
     }
 }
 
+/// encryption or decryption.
+///
+/// ```
+/// use slipgrease::Direction;
+///
+/// assert_eq!([Direction::Encryption, Direction::Decryption].map(|way| way.to_string()), ["encryption", "decryption"]);
+/// ```
+impl fmt::Display for Direction {
+    fn fmt(&self, f: &mut fmt::Formatter) -> fmt::Result {
+        f.pad(match self {
+            Direction::Encryption => "encryption",
+            Direction::Decryption => "decryption",
+        })
+    }
+}
+
 /// The states of a run, sixteen bytes for each.
+///
+/// A record gives the key away, a masked one as much as a plain one: two states with one mask between which a round key was added
+/// differ in just that key. It is to be kept as the key is. Its `Debug` tells nothing of its bytes, and they are wiped when it is
+/// dropped.
+///
+/// ```
+/// use slipgrease::{Masks, Offset, Schedule, Step};
+///
+/// let key: [u8; 32] = std::array::from_fn(|i| i as u8);
+/// let record = Schedule::expand(&key).record_masked(&[9; 16], &Masks::PUBLISHED, Offset::new(3).unwrap(), Step::ONE);
+/// for i in 0..16 {
+///     assert_eq!(record.state(0)[i] ^ record.state(1)[i], key[i]);
+///     assert_eq!(record.state(5)[i] ^ record.state(6)[i], key[16 + i]);
+/// }
+/// assert_eq!(format!("{record:?}"), "Record { direction: Encryption, .. }");
+/// ```
 #[derive(Clone, PartialEq, Eq)]
 pub struct Record {
     direction: Direction,
-    bytes: Vec<u8>,
+    bytes: Wiped,
 }
 
 impl Record {
     /// One that a run is still to write.
     pub(crate) fn blank(direction: Direction) -> Record {
-        Record { direction, bytes: vec![0; 16 * direction.states()] }
+        Record { direction, bytes: Wiped::zeros(16 * direction.states()) }
     }
 
     pub(crate) fn as_bytes_mut(&mut self) -> &mut [u8] {
@@ -66,15 +99,22 @@ impl Record {
     }
 }
 
+impl AsRef<[u8]> for Record {
+    fn as_ref(&self) -> &[u8] {
+        &self.bytes
+    }
+}
+
+/// Which way the run went, and none of its bytes.
 impl fmt::Debug for Record {
     fn fmt(&self, f: &mut fmt::Formatter) -> fmt::Result {
-        f.debug_list().entries(self.states()).finish()
+        f.debug_struct("Record").field("direction", &self.direction).finish_non_exhaustive()
     }
 }
 
 /// What has just been done at a point. A plain run has the same points: it covers, compensates, corrects, restores and uncovers
 /// nothing.
-#[derive(Clone, Copy, Debug, PartialEq, Eq, Hash)]
+#[derive(Clone, Copy, Debug, PartialEq, Eq, PartialOrd, Ord, Hash)]
 pub enum Stage {
     /// The block is there, under its first mask.
     Block,
@@ -102,7 +142,39 @@ pub enum Stage {
     Uncovering,
 }
 
-/// One of the points of a run.
+impl Stage {
+    fn name(self) -> &'static str {
+        match self {
+            Stage::Block => "block",
+            Stage::Key => "key",
+            Stage::Boxes => "boxes",
+            Stage::ShiftRows => "ShiftRows",
+            Stage::MixColumns => "MixColumns",
+            Stage::Compensation => "compensation",
+            Stage::InvShiftRows => "InvShiftRows",
+            Stage::Correction => "correction",
+            Stage::InverseBoxes => "inverse boxes",
+            Stage::InvMixColumns => "InvMixColumns",
+            Stage::Restoration => "restoration",
+            Stage::Uncovering => "uncovering",
+        }
+    }
+}
+
+/// Its name.
+///
+/// ```
+/// use slipgrease::Stage;
+///
+/// assert_eq!([Stage::InverseBoxes, Stage::Uncovering].map(|stage| stage.to_string()), ["inverse boxes", "uncovering"]);
+/// ```
+impl fmt::Display for Stage {
+    fn fmt(&self, f: &mut fmt::Formatter) -> fmt::Result {
+        f.pad(self.name())
+    }
+}
+
+/// One of the points of a run. Those of an encryption come before those of a decryption, each in their order.
 ///
 /// ```
 /// use slipgrease::{Direction, Offset, Point, Step};
@@ -121,7 +193,7 @@ pub enum Stage {
 /// assert_eq!(points[6].to_string(), "InvMixColumns 0");
 /// assert_eq!(points[6].mask(offset, step), "InvMixColumns(Mask(4))");
 /// ```
-#[derive(Clone, Copy, Debug, PartialEq, Eq, Hash)]
+#[derive(Clone, Copy, Debug, PartialEq, Eq, PartialOrd, Ord, Hash)]
 pub struct Point {
     direction: Direction,
     number: usize,
@@ -174,22 +246,10 @@ impl Point {
 
     /// The name of what has just been done, and at the end of what has come of it.
     pub fn name(self) -> &'static str {
-        match self.stage() {
-            Stage::Block => "block",
-            Stage::Key => "key",
-            Stage::Boxes => "boxes",
-            Stage::ShiftRows => "ShiftRows",
-            Stage::MixColumns => "MixColumns",
-            Stage::Compensation => "compensation",
-            Stage::InvShiftRows => "InvShiftRows",
-            Stage::Correction => "correction",
-            Stage::InverseBoxes => "inverse boxes",
-            Stage::InvMixColumns => "InvMixColumns",
-            Stage::Restoration => "restoration",
-            Stage::Uncovering => match self.direction {
-                Direction::Encryption => "ciphertext",
-                Direction::Decryption => "plaintext",
-            },
+        match (self.stage(), self.direction) {
+            (Stage::Uncovering, Direction::Encryption) => "ciphertext",
+            (Stage::Uncovering, Direction::Decryption) => "plaintext",
+            (stage, _) => stage.name(),
         }
     }
 

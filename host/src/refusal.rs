@@ -14,8 +14,9 @@ use std::fmt;
 /// assert_eq!(refusal.fault(), Some(Fault::Caller));
 /// assert_eq!(refusal.to_string(), "the key is not 32 bytes long (reply 1, KEY_LENGTH)");
 /// ```
-#[derive(Clone, Copy, Debug, PartialEq, Eq, Hash)]
+#[derive(Clone, Copy, Debug, PartialEq, Eq, PartialOrd, Ord, Hash)]
 #[non_exhaustive]
+#[must_use = "a refused call has written nothing"]
 pub enum Refusal {
     /// The key is not 32 bytes long.
     KeyLength = 1,
@@ -59,7 +60,7 @@ pub enum Refusal {
     SyncLost = 20,
     /// The packet's adaptation code is 00, or the length of its adaptation field does not fit the code.
     FieldWrong = 21,
-    /// The list of pipes is not 3,486 bytes long, or has a PID outside 0010 to 1ffe or one twice.
+    /// The list of pipes is not 3,486 bytes long, or has a PID outside 0010 to 1ffe, or the same PID twice.
     PipesWrong = 22,
     /// The packet's scrambling bits: not 00 in scrambling; in descrambling 01, or set over a payload that is too short for it.
     BitsWrong = 23,
@@ -88,7 +89,11 @@ const REFUSALS: [(Refusal, &str, &str); 23] = [
     (Refusal::PacketLength, "PACKET_LENGTH", "the packet is not 188 bytes long"),
     (Refusal::SyncLost, "SYNC_LOST", "the packet does not begin with 47"),
     (Refusal::FieldWrong, "FIELD_WRONG", "the adaptation code is 00, or the length of the field does not fit the code"),
-    (Refusal::PipesWrong, "PIPES_WRONG", "the list is not 3,486 bytes long, or has a PID outside 0010 to 1ffe or one twice"),
+    (
+        Refusal::PipesWrong,
+        "PIPES_WRONG",
+        "the list is not 3,486 bytes long, or has a PID outside 0010 to 1ffe, or the same PID twice",
+    ),
     (Refusal::BitsWrong, "BITS_WRONG", "the scrambling bits do not allow what is to be done"),
 ];
 
@@ -120,6 +125,7 @@ impl Refusal {
     }
 
     /// Whose fault it is, by the library's own sorter.
+    #[must_use]
     pub fn fault(self) -> Option<Fault> {
         sort_reply(self.number())
     }
@@ -146,8 +152,43 @@ impl fmt::Display for Refusal {
 
 impl std::error::Error for Refusal {}
 
-/// Whose fault a refusal is.
+/// The refusal with a number.
+///
+/// ```
+/// use slipgrease::{Refusal, UnknownReply};
+///
+/// assert_eq!(Refusal::try_from(13), Ok(Refusal::VersionUnknown));
+/// assert_eq!(u8::from(Refusal::VersionUnknown), 13);
+/// assert_eq!(Refusal::try_from(0), Err(UnknownReply(0)));
+/// ```
+impl TryFrom<u8> for Refusal {
+    type Error = UnknownReply;
+
+    fn try_from(number: u8) -> Result<Refusal, UnknownReply> {
+        Refusal::from_number(number).ok_or(UnknownReply(number))
+    }
+}
+
+impl From<Refusal> for u8 {
+    fn from(refusal: Refusal) -> u8 {
+        refusal.number()
+    }
+}
+
+/// A number that is no refusal's.
 #[derive(Clone, Copy, Debug, PartialEq, Eq, Hash)]
+pub struct UnknownReply(pub u8);
+
+impl fmt::Display for UnknownReply {
+    fn fmt(&self, f: &mut fmt::Formatter) -> fmt::Result {
+        write!(f, "no refusal has the number {}", self.0)
+    }
+}
+
+impl std::error::Error for UnknownReply {}
+
+/// Whose fault a refusal is.
+#[derive(Clone, Copy, Debug, PartialEq, Eq, PartialOrd, Ord, Hash)]
 pub enum Fault {
     /// What was handed over has the wrong shape.
     Caller,
@@ -165,6 +206,7 @@ pub enum Fault {
 /// assert_eq!(sort_reply(17), Some(Fault::Caller));
 /// assert_eq!(sort_reply(20), Some(Fault::Data));
 /// ```
+#[must_use]
 pub fn sort_reply(number: u8) -> Option<Fault> {
     match calls::sort_reply(number) {
         0 => None,

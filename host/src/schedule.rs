@@ -1,9 +1,11 @@
 //! A key schedule, and the runs with it that cannot be refused.
 
+use crate::calls;
 use crate::masks::{Masks, Offset, Step};
 use crate::record::{Direction, Record};
 use crate::refusal::Refusal;
 use crate::slices;
+use crate::wiped::Wiped;
 use std::fmt;
 
 /// Sixteen bytes in, sixteen bytes out.
@@ -15,7 +17,8 @@ const FITS: &str = "every length and number is right by its type";
 /// The standard form, the only one that a masked run has since form 1 retired.
 const FORM: u8 = 0;
 
-/// The fifteen round keys of AES-256, 240 bytes. Any 240 bytes are taken.
+/// The fifteen round keys of AES-256, 240 bytes. Any 240 bytes are taken. They are wiped when the schedule is dropped, and stay where
+/// they are when it is moved, so that no copy is left behind.
 ///
 /// ```
 /// use slipgrease::{Refusal, Schedule};
@@ -25,27 +28,33 @@ const FORM: u8 = 0;
 /// assert_eq!(Schedule::try_from(&[0; 239][..]), Err(Refusal::ScheduleLength));
 /// ```
 #[derive(Clone, PartialEq, Eq)]
-pub struct Schedule([u8; 240]);
+pub struct Schedule(Wiped);
+
+const LENGTH: usize = 240;
 
 impl Schedule {
     /// The schedule of a key, by FIPS 197's KEYEXPANSION.
+    #[must_use]
     pub fn expand(key: &[u8; 32]) -> Schedule {
-        let mut bytes = [0; 240];
+        let mut bytes = Wiped::zeros(LENGTH);
         slices::expand_key(key, &mut bytes).expect(FITS);
         Schedule(bytes)
     }
 
-    /// A schedule of 240 bytes.
-    pub fn new(bytes: [u8; 240]) -> Schedule {
-        Schedule(bytes)
+    /// A schedule of 240 bytes. What is handed over is wiped; a copy that the caller keeps is not.
+    pub fn new(mut bytes: [u8; 240]) -> Schedule {
+        let schedule = Schedule(Wiped::from(&bytes[..]));
+        calls::wipe(&mut bytes);
+        schedule
     }
 
     /// The 240 bytes, round key k from 16 k on.
     pub fn as_bytes(&self) -> &[u8; 240] {
-        &self.0
+        self.0[..].try_into().expect(FITS)
     }
 
     /// FIPS 197's CIPHER.
+    #[must_use]
     pub fn encrypt(&self, block: &Block) -> Block {
         let mut output = [0; 16];
         slices::encrypt(&self.0, block, &mut output).expect(FITS);
@@ -53,6 +62,7 @@ impl Schedule {
     }
 
     /// FIPS 197's INVCIPHER.
+    #[must_use]
     pub fn decrypt(&self, block: &Block) -> Block {
         let mut output = [0; 16];
         slices::decrypt(&self.0, block, &mut output).expect(FITS);
@@ -60,6 +70,7 @@ impl Schedule {
     }
 
     /// The 71 states of a plain encryption.
+    #[must_use]
     pub fn record(&self, block: &Block) -> Record {
         let mut record = Record::blank(Direction::Encryption);
         slices::record_plain(&self.0, block, record.as_bytes_mut()).expect(FITS);
@@ -67,13 +78,14 @@ impl Schedule {
     }
 
     /// The block that a masked run with the published masks ends with: the one of [`encrypt`](Schedule::encrypt).
+    #[must_use]
     pub fn encrypt_published(&self, block: &Block, offset: Offset, step: Step) -> Block {
         let mut output = [0; 16];
         slices::encrypt_published(&self.0, block, &mut output, offset.number(), step.number(), FORM).expect(FITS);
         output
     }
 
-    /// The same of many blocks, each at an offset of its own and all with one step: so many calls as there are 256 blocks.
+    /// The same of many blocks, each at an offset of its own and all with one step, by one call for every 256 of them.
     ///
     /// ```
     /// use slipgrease::{Offset, Schedule, Step};
@@ -83,20 +95,23 @@ impl Schedule {
     /// let made = schedule.encrypt_blocks(&blocks, Step::ONE);
     /// assert_eq!(made[7], schedule.encrypt(&[7; 16]));
     /// ```
+    #[must_use]
     pub fn encrypt_blocks(&self, blocks: &[(Block, Offset)], step: Step) -> Vec<Block> {
         blocks.chunks(256).flat_map(|blocks| self.encrypt_at_once(blocks, step)).collect()
     }
 
     /// Up to 256 blocks.
     fn encrypt_at_once(&self, blocks: &[(Block, Offset)], step: Step) -> Vec<Block> {
-        let input: Vec<u8> = blocks.iter().flat_map(|(block, _)| *block).collect();
+        let mut input = Wiped::zeros(16 * blocks.len());
+        input.chunks_exact_mut(16).zip(blocks).for_each(|(place, (block, _))| place.copy_from_slice(block));
         let offsets: Vec<u8> = blocks.iter().map(|(_, offset)| offset.number()).collect();
-        let mut output = vec![0; input.len()];
+        let mut output = Wiped::zeros(input.len());
         slices::encrypt_blocks(&self.0, &input, &mut output, &offsets, step.number(), FORM).expect(FITS);
         output.chunks_exact(16).map(|block| block.try_into().expect(FITS)).collect()
     }
 
     /// The block that a masked run with any sixteen masks ends with: the same one.
+    #[must_use]
     pub fn encrypt_masked(&self, block: &Block, masks: &Masks, offset: Offset, step: Step) -> Block {
         let mut output = [0; 16];
         slices::encrypt_masked(&self.0, block, &mut output, masks.as_bytes(), offset.number(), step.number(), FORM).expect(FITS);
@@ -115,6 +130,7 @@ impl Schedule {
     /// assert_eq!(covered.state(70), plain.state(70));
     /// assert_eq!(covered.state(70), &schedule.encrypt(&[2; 16]));
     /// ```
+    #[must_use]
     pub fn record_masked(&self, block: &Block, masks: &Masks, offset: Offset, step: Step) -> Record {
         let mut record = Record::blank(Direction::Encryption);
         let (masks, states) = (masks.as_bytes(), record.as_bytes_mut());
@@ -132,6 +148,7 @@ impl Schedule {
     /// let other_step = Step::new(5).unwrap();
     /// assert_eq!(schedule.decrypt_published(&made, Offset::new(9).unwrap(), other_step), [2; 16]);
     /// ```
+    #[must_use]
     pub fn decrypt_published(&self, block: &Block, offset: Offset, step: Step) -> Block {
         let mut output = [0; 16];
         slices::decrypt_published(&self.0, block, &mut output, offset.number(), step.number()).expect(FITS);
@@ -139,6 +156,7 @@ impl Schedule {
     }
 
     /// The block that a masked decryption with any sixteen masks ends with: the same one.
+    #[must_use]
     pub fn decrypt_masked(&self, block: &Block, masks: &Masks, offset: Offset, step: Step) -> Block {
         let mut output = [0; 16];
         slices::decrypt_masked(&self.0, block, &mut output, masks.as_bytes(), offset.number(), step.number()).expect(FITS);
@@ -156,6 +174,7 @@ impl Schedule {
     /// assert_eq!(covered.state(0), &[2 ^ 7; 16]);
     /// assert_eq!(covered.state(84), &schedule.decrypt(&[2; 16]));
     /// ```
+    #[must_use]
     pub fn record_masked_decryption(&self, block: &Block, masks: &Masks, offset: Offset, step: Step) -> Record {
         let mut record = Record::blank(Direction::Decryption);
         let (masks, states) = (masks.as_bytes(), record.as_bytes_mut());
@@ -168,7 +187,10 @@ impl TryFrom<&[u8]> for Schedule {
     type Error = Refusal;
 
     fn try_from(bytes: &[u8]) -> Result<Schedule, Refusal> {
-        bytes.try_into().map(Schedule).map_err(|_| Refusal::ScheduleLength)
+        match bytes.len() {
+            LENGTH => Ok(Schedule(Wiped::from(bytes))),
+            _ => Err(Refusal::ScheduleLength),
+        }
     }
 }
 

@@ -56,7 +56,8 @@ pub fn decrypt(schedule: &[u8], input: &[u8], output: &mut [u8]) -> Result<(), R
     Refusal::check(calls::decrypt(schedule, input, output))
 }
 
-/// Writes the 71 states of a plain encryption, 1,136 bytes.
+/// Writes the 71 states of a plain encryption, 1,136 bytes. They give the key away: state 0 xor state 1 is round key 0, and state 5
+/// xor state 6 is round key 1.
 ///
 /// Refused, in this order: schedule not 240 bytes, input not 16, record not 1,136.
 ///
@@ -139,6 +140,7 @@ pub fn convert(input: &[u8], output: &mut [u8], offset: u8) -> Result<(), Refusa
 /// ```
 /// assert_eq!(slipgrease::multiply(0x57, 0x83), 0xc1);
 /// ```
+#[must_use]
 pub fn multiply(a: u8, b: u8) -> u8 {
     calls::multiply(a, b)
 }
@@ -148,6 +150,7 @@ pub fn multiply(a: u8, b: u8) -> u8 {
 /// ```
 /// assert_eq!(slipgrease::inverse(0x53), 0xca);
 /// ```
+#[must_use]
 pub fn inverse(x: u8) -> u8 {
     calls::inverse(x)
 }
@@ -177,6 +180,7 @@ pub fn power(n: u8) -> Result<u8, Refusal> {
 /// ```
 /// assert_eq!(slipgrease::masked_inverse(0x00, 0x53), 0x99);
 /// ```
+#[must_use]
 pub fn masked_inverse(x: u8, r: u8) -> u8 {
     calls::masked_inverse(x, r)
 }

@@ -20,6 +20,17 @@ static const uint8_t rising[SLIPGREASE_MASKS_BYTES] = {0, 1, 2, 3, 4, 5, 6, 7, 8
 static uint8_t key[SLIPGREASE_KEY_BYTES], in[SLIPGREASE_BLOCK_BYTES], out[SLIPGREASE_BLOCK_BYTES];
 static uint8_t record[SLIPGREASE_RECORD_BYTES], table[SLIPGREASE_MASKS_BYTES];
 
+/* A record gives the key away, covered or not: state 5r xor state 5r + 1 is round key r, and the first two are the key. */
+static void given_away(const char *call)
+{
+    for (size_t r = 0; r < 2; r++) {
+        uint8_t xored[SLIPGREASE_BLOCK_BYTES];
+        for (size_t i = 0; i < sizeof xored; i++)
+            xored[i] = record[16 * 5 * r + i] ^ record[16 * (5 * r + 1) + i];
+        alike(call, xored, key + 16 * r, sizeof xored);
+    }
+}
+
 static void rack(void)
 {
     for (int i = 0; i < 32; i++)
@@ -50,6 +61,7 @@ static void rack(void)
     bytes("record_plain", record + 16 * 3, "6353e08c0960e104cd70b751bacad0e7");
     bytes("record_plain", record + 16 * 4, "5f72641557f5bc92f7be3b291db9f91a");
     bytes("record_plain", record + 16 * (SLIPGREASE_STATES - 1), ciphertext);
+    given_away("record_plain");
     CALL(record_plain, SLIPGREASE_REPLY_SCHEDULE_LENGTH, NONE, LENT(in), LENT(record));
     CALL(record_plain, SLIPGREASE_REPLY_INPUT_LENGTH, LENT(w), NONE, LENT(record));
     CALL(record_plain, SLIPGREASE_REPLY_RECORD_LENGTH, LENT(w), LENT(in), NONE);
@@ -132,6 +144,7 @@ static void steps(void)
         CALL(record_masked, reply, LENT(w), LENT(in), LENT(masks), 5, d, LENT(record));
         if (reply == SLIPGREASE_REPLY_DONE) {
             bytes("encrypt_masked", out, ciphertext);
+            given_away("record_masked");
             under("record_masked", record, 5, plaintext);
             under("record_masked", record + 16 * 1, 5, "00102030405060708090a0b0c0d0e0f0");
             under("record_masked", record + 16 * 2, 5 + d, "63cab7040953d051cd60e0e7ba70e18c");

@@ -64,13 +64,18 @@ static void states(uint8_t o, uint8_t d)
     static const char name[] = "record_masked_decryption", keyed_14[] = "aa5ece06ee6e3c56dde68bac2621bebf";
     static const char keyed_13[] = "2c21a820306f154ab712c75eee0da04f";
     const uint8_t *rows = record + 16 * 2;
-    uint8_t shifted[16], mixed[16];
+    uint8_t shifted[16], mixed[16], key_14[16], key_13[16];
     for (size_t i = 0; i < 16; i++) {
         const uint8_t *column = record + 16 * 6 + i / 4 * 4;
         shifted[i] = rows[(i + 4 * (i % 4)) % 16];
         mixed[i] = slipgrease_multiply(2, column[i % 4]) ^ slipgrease_multiply(3, column[(i + 1) % 4]) ^ column[(i + 2) % 4]
             ^ column[(i + 3) % 4];
+        key_14[i] = record[i] ^ record[16 * 1 + i];
+        key_13[i] = record[16 * 4 + i] ^ record[16 * 5 + i];
     }
+    /* It gives the key away. */
+    alike(name, key_14, w + 16 * 14, sizeof key_14);
+    alike(name, key_13, w + 16 * 13, sizeof key_13);
     under(name, record, o, ciphertext);
     under(name, record + 16 * 1, o, keyed_14);
     under(name, shifted, o, keyed_14);

@@ -156,10 +156,10 @@ static void chain(enum way way, const uint8_t *from, uint8_t *to, size_t begin, 
         if (way == THERE) {
             for (size_t i = 0; i < BLOCK; i++)
                 block[i] = from[at + i] ^ last[i];
-            slipgrease_encrypt(schedule_of(k, odd), SLIPGREASE_SCHEDULE_BYTES, LENT(block), to + at, BLOCK);
+            CALL(encrypt, SLIPGREASE_REPLY_DONE, schedule_of(k, odd), SLIPGREASE_SCHEDULE_BYTES, LENT(block), to + at, BLOCK);
             last = to + at;
         } else {
-            slipgrease_decrypt(schedule_of(k, odd), SLIPGREASE_SCHEDULE_BYTES, from + at, BLOCK, LENT(block));
+            CALL(decrypt, SLIPGREASE_REPLY_DONE, schedule_of(k, odd), SLIPGREASE_SCHEDULE_BYTES, from + at, BLOCK, LENT(block));
             for (size_t i = 0; i < BLOCK; i++)
                 to[at + i] = block[i] ^ last[i];
             last = from + at;

@@ -37,6 +37,13 @@ static void print(const uint8_t *bytes, size_t length, char end)
     putchar(end);
 }
 
+/* A key has its length by its type, so that it is always expanded. */
+static void expand(const uint8_t key[SLIPGREASE_KEY_BYTES], uint8_t schedule[SLIPGREASE_SCHEDULE_BYTES])
+{
+    if (slipgrease_expand_key(key, SLIPGREASE_KEY_BYTES, schedule, SLIPGREASE_SCHEDULE_BYTES) != SLIPGREASE_REPLY_DONE)
+        abort();
+}
+
 /* The plain engine, and the masked one at each offset. */
 enum { PLAIN = 16, ENGINES };
 
@@ -126,7 +133,7 @@ static void make_wraps(unsigned long count)
             struct wrap w = {.data_length = length, .wrapped_length = length + SLIPGREASE_WRAP_EXTRA};
             fill(w.key, sizeof w.key);
             fill(w.data, length);
-            slipgrease_expand_key(w.key, sizeof w.key, w.schedule, sizeof w.schedule);
+            expand(w.key, w.schedule);
             check_whole(&w);
             print(w.key, sizeof w.key, ' ');
             print(w.data, length, ' ');
@@ -158,8 +165,8 @@ static void draw_pipes(struct pipes *pipes)
         pipes->keys[k].pid[0] = (uint8_t)(pid >> 8);
         pipes->keys[k].pid[1] = (uint8_t)pid;
         memcpy(pipe, pipes->keys[k].pid, 2);
-        slipgrease_expand_key(pipes->keys[k].even, SLIPGREASE_KEY_BYTES, pipe + EVEN_AT, SLIPGREASE_SCHEDULE_BYTES);
-        slipgrease_expand_key(pipes->keys[k].odd, SLIPGREASE_KEY_BYTES, pipe + ODD_AT, SLIPGREASE_SCHEDULE_BYTES);
+        expand(pipes->keys[k].even, pipe + EVEN_AT);
+        expand(pipes->keys[k].odd, pipe + ODD_AT);
         memcpy(pipe + START_AT, pipes->keys[k].start, SLIPGREASE_BLOCK_BYTES);
     }
 }

@@ -2,10 +2,12 @@
 
 use super::{Packet, Pipes, Way, LENGTH};
 use crate::refusal::Refusal;
+use crate::wiped::Wiped;
+use std::fmt;
 use std::ops::ControlFlow;
 
 /// A stream of packets that comes in pieces of any length, as from a file or through a pipe. Every packet is made as soon as it
-/// is whole, so that between two pieces there waits at most the beginning of one.
+/// is whole, so that between two pieces there waits at most the beginning of one. What it works with is wiped when it is dropped.
 ///
 /// ```
 /// use slipgrease::{Parity, Pipes, Refusal, Way};
@@ -33,13 +35,15 @@ use std::ops::ControlFlow;
 pub struct Stream<'a> {
     pipes: &'a Pipes,
     way: Way,
-    part: Vec<u8>,
-    made: Vec<u8>,
+    /// The beginning of a packet, and how much of it is there.
+    part: Wiped,
+    waiting: usize,
+    made: Wiped,
 }
 
 impl<'a> Stream<'a> {
     pub(super) fn new(pipes: &'a Pipes, way: Way) -> Stream<'a> {
-        Stream { pipes, way, part: Vec::with_capacity(LENGTH), made: Vec::new() }
+        Stream { pipes, way, part: Wiped::zeros(LENGTH), waiting: 0, made: Wiped::zeros(0) }
     }
 
     /// Takes the next piece, and gives what is made of the packets that are whole by it.
@@ -47,20 +51,24 @@ impl<'a> Stream<'a> {
     /// `judge` is given each of them, in their order, with what the library made of it or why it was refused. Where it lets a
     /// refused packet pass, that is copied. Where it breaks off, only what came before is given, and the rest of the piece is not
     /// taken.
+    #[must_use = "what is made of the piece is given here alone"]
     pub fn take<B>(
         &mut self,
         piece: &[u8],
         mut judge: impl FnMut(&Packet, Result<&Packet, Refusal>) -> ControlFlow<B>,
     ) -> (&[u8], ControlFlow<B>) {
-        let Stream { pipes, way, part, made } = self;
-        let missing = if part.is_empty() { 0 } else { LENGTH - part.len() };
+        let Stream { pipes, way, part, waiting, made } = self;
+        let missing = if *waiting == 0 { 0 } else { LENGTH - *waiting };
         let (first, rest) = piece.split_at(missing.min(piece.len()));
-        part.extend_from_slice(first);
-        let (packets, rest) = (part.chunks_exact(LENGTH).chain(rest.chunks_exact(LENGTH)), rest.chunks_exact(LENGTH).remainder());
+        append(part, waiting, first);
+        let packets = part[..*waiting].chunks_exact(LENGTH).chain(rest.chunks_exact(LENGTH));
+        let rest = rest.chunks_exact(LENGTH).remainder();
 
         // It grows with the longest piece and is not cleared for the next.
         let length = LENGTH * packets.clone().count();
-        made.resize(length.max(made.len()), 0);
+        if length > made.len() {
+            *made = Wiped::zeros(length);
+        }
         let (mut done, mut ended) = (0, ControlFlow::Continue(()));
         for packet in packets {
             let packet: &Packet = packet.try_into().expect("a whole packet");
@@ -75,25 +83,38 @@ impl<'a> Stream<'a> {
             }
             done += LENGTH;
         }
-        if part.len() == LENGTH {
-            part.clear();
+        if *waiting == LENGTH {
+            *waiting = 0;
         }
         if ended.is_continue() {
-            part.extend_from_slice(rest);
+            append(part, waiting, rest);
         }
         (&made[..done], ended)
     }
 
     /// The beginning of a packet that is not whole yet, under 188 bytes. At the end of a stream there should be none.
     pub fn part(&self) -> &[u8] {
-        &self.part
+        &self.part[..self.waiting]
     }
 
     /// What the library says of that beginning as it is, at the end of the stream.
     pub(super) fn end(&self) -> Result<(), Refusal> {
-        match self.part.is_empty() {
-            true => Ok(()),
-            false => self.pipes.make(self.way, &self.part, &mut [0; LENGTH]),
+        match self.part() {
+            [] => Ok(()),
+            part => self.pipes.make(self.way, part, &mut [0; LENGTH]),
         }
+    }
+}
+
+/// Puts bytes behind those that wait.
+fn append(part: &mut [u8], waiting: &mut usize, bytes: &[u8]) {
+    part[*waiting..*waiting + bytes.len()].copy_from_slice(bytes);
+    *waiting += bytes.len();
+}
+
+/// Says nothing of the bytes.
+impl fmt::Debug for Stream<'_> {
+    fn fmt(&self, f: &mut fmt::Formatter) -> fmt::Result {
+        write!(f, "Stream({:?}, ..)", self.way)
     }
 }

@@ -79,6 +79,13 @@ impl<W: Write> Write for PacketWriter<'_, W> {
     }
 }
 
+/// Says nothing of the bytes.
+impl<W> fmt::Debug for PacketWriter<'_, W> {
+    fn fmt(&self, f: &mut fmt::Formatter) -> fmt::Result {
+        write!(f, "PacketWriter({:?}, {} packets, ..)", self.stream, self.packets)
+    }
+}
+
 /// A packet of a stream that was refused.
 ///
 /// ```
@@ -87,7 +94,7 @@ impl<W: Write> Write for PacketWriter<'_, W> {
 /// let refused = RefusedPacket { number: 3, refusal: Refusal::SyncLost };
 /// assert_eq!(refused.to_string(), "packet 3, byte 564: the packet does not begin with 47 (reply 20, SYNC_LOST)");
 /// ```
-#[derive(Clone, Copy, Debug, PartialEq, Eq)]
+#[derive(Clone, Copy, Debug, PartialEq, Eq, Hash)]
 pub struct RefusedPacket {
     /// How many packets came before it.
     pub number: u64,

@@ -103,3 +103,24 @@ fn rounds_follow_one_another() {
         assert_eq!(begun, 14);
     }
 }
+
+/// Two states with one mask, between which a round key was added, give the key away; `Debug` tells nothing of that.
+#[test]
+fn a_record_has_the_round_keys_and_does_not_show_them() {
+    let schedule = Schedule::expand(&from_fn(|i| i as u8));
+    let (offset, step) = (Offset::new(11).unwrap(), Step::new(5).unwrap());
+    let forth = schedule.record_masked(&[9; 16], &Masks::PUBLISHED, offset, step);
+    let back = schedule.record_masked_decryption(&[9; 16], &Masks::PUBLISHED, offset, step);
+    for record in [&forth, &back] {
+        for (point, state) in record.states() {
+            if let Some(key) = point.key() {
+                let added: Block = from_fn(|i| state[i] ^ record.state(point.number() - 1)[i]);
+                assert_eq!(added[..], schedule.as_bytes()[16 * key..][..16], "{point}");
+            }
+        }
+        assert!(format!("{record:?}").len() < 40 && format!("{record:#?}").len() < 50, "{record:?}");
+    }
+    let other = schedule.record_masked(&[8; 16], &Masks::PUBLISHED, offset, step);
+    assert_ne!(forth, other);
+    assert_eq!(format!("{forth:?}"), format!("{other:?}"));
+}

@@ -3,7 +3,7 @@
 use crate::calls;
 use crate::refusal::Refusal;
 #[cfg(doc)]
-use crate::{convert, decrypt, encrypt};
+use crate::{convert, decrypt, encrypt, record_plain};
 
 /// Writes the block that a masked run with the published masks ends with: what [`encrypt`] writes, at every offset and with every
 /// step, which is how far the labels of the masks advance in a round.
@@ -88,7 +88,7 @@ pub fn encrypt_masked(
     Refusal::check(calls::encrypt_masked(schedule, input, output, masks, offset, step, form))
 }
 
-/// Writes the 71 states of a masked run, 1,136 bytes.
+/// Writes the 71 states of a masked run, 1,136 bytes. Covered as they are, they give the key away as those of [`record_plain`] do.
 ///
 /// Refused, in this order: schedule not 240 bytes, input not 16, masks not 16, offset above 15, step 0, 2, 3 or above 15, record
 /// not 1,136.
@@ -152,7 +152,8 @@ pub fn decrypt_masked(
     Refusal::check(calls::decrypt_masked(schedule, input, output, masks, offset, step))
 }
 
-/// Writes the 85 states of a masked decryption, 1,360 bytes.
+/// Writes the 85 states of a masked decryption, 1,360 bytes. Covered as they are, they give the key away: state 0 xor state 1 is
+/// round key 14, and state 4 xor state 5 is round key 13.
 ///
 /// Refused, in this order: schedule not 240 bytes, input not 16, masks not 16, offset above 15, step 0, 2, 3 or above 15, record
 /// not 1,360.

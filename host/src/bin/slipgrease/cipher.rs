@@ -2,11 +2,15 @@
 
 use crate::fault::Fault;
 use crate::hex::digits;
+use crate::shown::{brief, count};
 use crate::words::{Given, Number, Words};
 use slipgrease::Refusal;
 use std::io::Write;
 
-/// A schedule: that of a key, or the one that --schedule gives, which any 240 bytes are.
+/// The option for a key that is not to be seen among the arguments.
+const KEY_FILE: &str = "key-file";
+
+/// A schedule: that of a key, an argument or in a file, or the one that --schedule gives, which any 240 bytes are.
 #[derive(Clone)]
 pub struct Keyed {
     given: Given,
@@ -14,12 +18,22 @@ pub struct Keyed {
 }
 
 impl Keyed {
-    pub fn read(words: &mut Words) -> Result<Keyed, Fault> {
-        if let Some(given) = words.bytes_of("schedule")? {
-            return Ok(Keyed { bytes: given.bytes.clone(), given });
-        }
-        let given = words.bytes("key")?;
-        Keyed::expand(given)
+    /// The schedule, and what else the command takes. That is read before a key is expanded: where both are sought on standard
+    /// input, this is to be told, and not how long they are together.
+    pub fn read<T>(words: &mut Words, others: impl FnOnce(&mut Words) -> Result<T, Fault>) -> Result<(Keyed, T), Fault> {
+        let file = words.bytes_in(KEY_FILE, "key")?;
+        let (given, is_key) = match (words.bytes_of("schedule")?, file) {
+            (Some(schedule), None) => (schedule, false),
+            (Some(_), Some(_)) => {
+                return Err(Fault::caller("--schedule and --key-file are both given, and one of them is expected"))
+            }
+            (None, Some(key)) => (key, true),
+            (None, None) => (words.bytes("key")?, true),
+        };
+        let others = others(words)?;
+        words.end()?;
+        let keyed = if is_key { Keyed::expand(given)? } else { Keyed { bytes: given.bytes.clone(), given } };
+        Ok((keyed, others))
     }
 
     pub fn expand(given: Given) -> Result<Keyed, Fault> {
@@ -53,9 +67,10 @@ pub fn explained(refusal: Refusal, keyed: &Keyed, block: &Given, masking: Option
 
 /// Fifteen round keys, one to a line.
 pub fn expand(words: &mut Words, out: &mut dyn Write) -> Result<(), Fault> {
-    let given = words.bytes("key")?;
+    let file = words.bytes_in(KEY_FILE, "key")?;
+    let key = file.map_or_else(|| words.bytes("key"), Ok)?;
     words.end()?;
-    for round_key in Keyed::expand(given)?.bytes.chunks(16) {
+    for round_key in Keyed::expand(key)?.bytes.chunks(16) {
         writeln!(out, "{}", digits(round_key))?;
     }
     Ok(())
@@ -72,9 +87,7 @@ pub fn decrypt(words: &mut Words, out: &mut dyn Write) -> Result<(), Fault> {
 type Cipher = fn(&[u8], &[u8], &mut [u8]) -> Result<(), Refusal>;
 
 fn one_block(words: &mut Words, out: &mut dyn Write, cipher: Cipher) -> Result<(), Fault> {
-    let keyed = Keyed::read(words)?;
-    let block = words.bytes("block")?;
-    words.end()?;
+    let (keyed, block) = Keyed::read(words, |words| words.bytes("block"))?;
     let mut output = [0; 16];
     cipher(&keyed.bytes, &block.bytes, &mut output).map_err(|refusal| explained(refusal, &keyed, &block, None))?;
     writeln!(out, "{}", digits(&output))?;
@@ -107,9 +120,7 @@ fn one_masked_block(words: &mut Words, out: &mut dyn Write, cipher: MaskedCipher
     let offset = words.number_of("offset")?;
     let step = words.number_of("step")?;
     let masks = words.bytes_of("masks")?;
-    let keyed = Keyed::read(words)?;
-    let block = words.bytes("block")?;
-    words.end()?;
+    let (keyed, block) = Keyed::read(words, |words| words.bytes("block"))?;
     let offset =
         offset.ok_or_else(|| Fault::caller("--offset is missing: the run's offset, 0 to 15, is the caller's to choose"))?;
     let masking = Masking { masks, offset, step };
@@ -124,18 +135,23 @@ fn one_masked_block(words: &mut Words, out: &mut dyn Write, cipher: MaskedCipher
 
 /// The module's encryption of many blocks in one call, a block to a line.
 pub fn blocks(words: &mut Words, out: &mut dyn Write) -> Result<(), Fault> {
-    let offsets = words.bytes_of("offsets")?;
+    let offsets = words.numbers_of("offsets")?;
     let step = words.number_of("step")?;
-    let keyed = Keyed::read(words)?;
-    let blocks = words.all_bytes("blocks")?;
-    let offsets = offsets
-        .ok_or_else(|| Fault::caller("--offsets is missing: a byte for each block, 00 to 0f, that is the caller's to choose"))?;
+    let (keyed, blocks) = Keyed::read(words, |words| words.all_bytes("blocks"))?;
+    let offsets = offsets.ok_or_else(|| {
+        Fault::caller("--offsets is missing: a number for each block, 0 to 15, that is the caller's to choose, as in 3,15,7")
+    })?;
+    let values: Vec<u8> = offsets.iter().map(|offset| offset.value).collect();
     let mut output = vec![0; blocks.bytes.len()];
-    let made = slipgrease::encrypt_blocks(&keyed.bytes, &blocks.bytes, &mut output, &offsets.bytes, Number::step(&step), FORM);
+    let made = slipgrease::encrypt_blocks(&keyed.bytes, &blocks.bytes, &mut output, &values, Number::step(&step), FORM);
     made.map_err(|refusal| match (refusal, &step) {
-        (Refusal::OffsetsLength, _) => offsets.refused(refusal),
+        (Refusal::OffsetsLength, _) => {
+            let (offsets, blocks) = (count(offsets.len(), "offset"), count(blocks.bytes.len() / 16, "block"));
+            Fault::refused(refusal, &format!("--offsets: {offsets} for {blocks}"))
+        }
         (Refusal::OffsetRange, _) => wrong_offset(&offsets),
         (Refusal::StepWrong, Some(step)) => step.refused(refusal),
+        (Refusal::InputLength, _) => Fault::refused_as(refusal, &blocks.seen(), "a block is 16 bytes, and at most 256 are taken"),
         _ => explained(refusal, &keyed, &blocks, None),
     })?;
     for block in output.chunks(16) {
@@ -145,8 +161,7 @@ pub fn blocks(words: &mut Words, out: &mut dyn Write) -> Result<(), Fault> {
 }
 
 /// Names the first offset that is above 15.
-fn wrong_offset(offsets: &Given) -> Fault {
-    let block = offsets.bytes.iter().position(|&offset| offset > 15).expect("one is above 15");
-    let seen = format!("{}, {}: {:02x} for block {block}", offsets.what, offsets.place, offsets.bytes[block]);
-    Fault::refused(Refusal::OffsetRange, &seen)
+fn wrong_offset(offsets: &[Number]) -> Fault {
+    let (block, offset) = offsets.iter().enumerate().find(|(_, offset)| offset.value > 15).expect("one is above 15");
+    Fault::refused(Refusal::OffsetRange, &format!("--offsets, for block {}: {}", block + 1, brief(&offset.word)))
 }

@@ -2,14 +2,19 @@
 
 use crate::fault::Fault;
 use crate::hex::digits;
-use crate::words::{given, number, with_words, Given, Words};
+use crate::input::Input;
+use crate::shown::{brief, count};
+use crate::words::{given, number, words_of, Given, Words};
 use slipgrease::{Block, Refusal};
 use std::io::Write;
 
+/// As many lines are taken as are kept until all of them were looked at.
+const LINES: usize = 1 << 16;
+
 pub fn convert(words: &mut Words, out: &mut dyn Write) -> Result<(), Fault> {
     let blocks = match words.input_alone()? {
-        Some(text) => of_lines(&text)?,
-        None => vec![of_arguments(words)?],
+        true => of_lines(words.input())?,
+        false => vec![of_arguments(words)?],
     };
     for block in blocks {
         writeln!(out, "{}", digits(&block))?;
@@ -25,18 +30,24 @@ fn of_arguments(words: &mut Words) -> Result<Block, Fault> {
 }
 
 /// A stored block and its offset to a line. A line that is wrong is told before any block is printed.
-fn of_lines(text: &str) -> Result<Vec<Block>, Fault> {
+fn of_lines(input: &mut Input) -> Result<Vec<Block>, Fault> {
     let mut blocks = Vec::new();
-    for (line, words) in with_words(text) {
-        let place = format!("line {line} of standard input");
-        let (stored, offset) = match words[..] {
-            [stored, offset] => (given("stored block", place.clone(), stored)?, offset),
-            _ => {
-                let count = words.len();
-                return Err(Fault::caller(format!("{place}: {count} words, and a stored block and its offset are expected")));
+    while let Some((line, text)) = input.line()? {
+        let place = format!("line {line} of {}", input.name);
+        let (stored, offset) = match words_of(&text)[..] {
+            [] => continue,
+            [stored, offset] => (given("stored block", place.clone(), stored)?, offset.to_string()),
+            ref words => {
+                let count = count(words.len(), "word");
+                return Err(Fault::caller(format!("{place}: {count}, and a stored block and its offset are expected")));
             }
         };
-        blocks.push(standard(&stored, offset, &place)?);
+        if blocks.len() == LINES {
+            return Err(Fault::caller(format!(
+                "{place}: more than {LINES} stored blocks, and at most so many are expected at once"
+            )));
+        }
+        blocks.push(standard(&stored, &offset, &place)?);
     }
     if blocks.is_empty() {
         return Err(Fault::caller("standard input: no stored block in it, and one to a line is expected, with its offset"));
@@ -45,8 +56,8 @@ fn of_lines(text: &str) -> Result<Vec<Block>, Fault> {
 }
 
 fn standard(stored: &Given, offset: &str, place: &str) -> Result<Block, Fault> {
-    let seen = format!("offset, {place}: {offset}");
-    let offset = number(offset).ok_or_else(|| Fault::caller(format!("{seen}: a decimal number is expected")))?;
+    let seen = format!("offset, {place}: {}", brief(offset));
+    let offset = number(offset).ok_or_else(|| Fault::caller(format!("{seen}: a decimal number from 0 to 15 is expected")))?;
     let mut output = [0; 16];
     slipgrease::convert(&stored.bytes, &mut output, offset).map_err(|refusal| match refusal {
         Refusal::OffsetRange => Fault::refused(refusal, &seen),

@@ -1,19 +1,26 @@
 //! The desk tool: the library's calls for someone at the rack desk with a key, a block and a question.
 //!
-//! It takes every offset from its caller and draws none. Its status is 0 where a command is done, and
-//! otherwise what the library's own sorter says of the refusal: 1 for a caller fault, 2 for a data fault.
+//! It takes every offset from its caller and draws none. Its status is 0 where a command is done, 3 where it is
+//! done and the answer is no, and otherwise what the library's own sorter says of the refusal: 1 for a caller
+//! fault, 2 for a data fault.
 
 #![forbid(unsafe_code)]
 
 mod cipher;
+mod completion;
 mod convert;
 mod fault;
+mod given;
 mod help;
 mod hex;
+mod input;
+mod json;
+mod opened;
 mod pipe;
 mod progress;
 mod record;
 mod sheet;
+mod shown;
 mod stream;
 mod svg;
 mod table;
@@ -22,6 +29,7 @@ mod words;
 mod wrap;
 
 use crate::fault::Fault;
+use crate::shown::{brief, count};
 use crate::words::Words;
 use crate::Command::{Printing, Streaming};
 use std::ffi::OsString;
@@ -33,11 +41,12 @@ use std::process::exit;
 fn main() {
     let words: Vec<OsString> = std::env::args_os().skip(1).collect();
     if let Err(fault) = run_at_the_desk(&words) {
-        if fault.status != 0 {
-            // There is nobody left to tell where this fails too.
-            let _ = writeln!(io::stderr(), "slipgrease: {}", fault.message);
+        let told = if fault.is_told() { writeln!(io::stderr(), "slipgrease: {}", fault.message) } else { Ok(()) };
+        // A message that is lost is a failure to write, which nobody is left to tell of.
+        match told.map_err(|error| Fault::at("standard error", error)) {
+            Err(lost) if lost.is_told() => exit(lost.status),
+            _ => exit(fault.status),
         }
-        exit(fault.status)
     }
 }
 
@@ -47,8 +56,10 @@ fn run_at_the_desk(words: &[OsString]) -> Result<(), Fault> {
     let out = io::stdout().as_fd().try_clone_to_owned().map(File::from)?;
     let mut out = BufWriter::new(out);
     let done = run(words, &mut io::stdin().lock(), &mut out, &mut io::stderr());
-    let flushed = out.flush().map_err(|error| Fault::at("standard output", error));
-    done.and(flushed)
+    match out.flush().map_err(Fault::from) {
+        Err(fault) if fault.is_told() => Err(fault),
+        _ => done,
+    }
 }
 
 /// What a command writes to.
@@ -77,28 +88,47 @@ const COMMANDS: &[(&str, Command)] = &[
     ("sheet", Printing(sheet::sheet)),
     ("fitness", Printing(sheet::fitness)),
     ("vectors", Printing(vectors::vectors)),
+    ("completion", Printing(completion::completion)),
 ];
 
 /// Runs one command. What it writes is printed also where it fails.
 fn run(words: &[OsString], input: &mut dyn BufRead, out: &mut dyn Write, notes: &mut dyn Write) -> Result<(), Fault> {
-    let name = words.first().map_or("--help".into(), |name| name.to_string_lossy());
-    if name == "--help" || name == "-h" {
-        out.write_all(help::all().as_bytes())?;
-        return Ok(());
-    }
-    let (name, command) = match COMMANDS.iter().find(|(its, _)| *its == name) {
-        Some(named) => named,
-        None => return Err(Fault::caller(format!("no command {name}; slipgrease --help lists them"))),
+    let asks = |word: &OsString| word == "--help" || word == "-h";
+    // Behind these dashes the tool itself has no options; its command has.
+    let dashes = words.first().map_or(false, |first| first == "--");
+    let (first, rest) = match &words[usize::from(dashes)..] {
+        [] => return print(out, help::all()),
+        [first, rest @ ..] if !dashes && first == "--version" => match rest.len() {
+            0 => return print(out, concat!("slipgrease ", env!("CARGO_PKG_VERSION"), "\n").into()),
+            more => return Err(Fault::caller(format!("--version: {}, and none is expected", count(more, "word")))),
+        },
+        [first, rest @ ..] if !dashes && asks(first) || first == "help" => match rest {
+            [] => return print(out, help::all()),
+            [name] if name == "help" => return print(out, help::all()),
+            [name] => return print(out, help::of(command(name)?.0)),
+            _ => return Err(Fault::caller(format!("help: {} words, and one command is expected", rest.len()))),
+        },
+        [first, rest @ ..] => (first, rest),
     };
-    if words[1..].iter().any(|word| word == "--help" || word == "-h") {
-        out.write_all(help::of(name).as_bytes())?;
-        return Ok(());
+    let (name, command) = command(first)?;
+    if rest.iter().take_while(|word| *word != "--").any(asks) {
+        return print(out, help::of(name));
     }
-    let mut words = Words::new(name, &words[1..], input);
+    let mut words = Words::new(name, rest, input);
     match command {
         Printing(command) => command(&mut words, out),
         Streaming(command) => command(&mut words, out, notes),
     }
+}
+
+fn print(out: &mut dyn Write, text: String) -> Result<(), Fault> {
+    out.write_all(text.as_bytes())?;
+    Ok(())
+}
+
+fn command(name: &OsString) -> Result<&'static (&'static str, Command), Fault> {
+    let found = COMMANDS.iter().find(|(its, _)| name == its);
+    found.ok_or_else(|| Fault::caller(format!("no command {}; slipgrease --help lists them", brief(name))))
 }
 
 #[cfg(test)]

@@ -4,43 +4,96 @@ use crate::cipher::{explained, Keyed};
 use crate::fault::Fault;
 use crate::hex::digits;
 use crate::words::Words;
-use slipgrease::{Block, Masks, Offset, Schedule};
+use slipgrease::{Block, Masks, Offset, Schedule, Step};
 use std::fmt;
-use std::io::Write;
+use std::io::{self, Write};
 
 pub fn pipe(words: &mut Words, out: &mut dyn Write) -> Result<(), Fault> {
+    let json = words.flag("json")?;
     let step = words.taken_step()?;
-    let keyed = Keyed::read(words)?;
-    let block = words.bytes("block")?;
-    words.end()?;
+    let (keyed, block) = Keyed::read(words, |words| words.bytes("block"))?;
     let mut at_the_rack = [0; 16];
     slipgrease::encrypt(&keyed.bytes, &block.bytes, &mut at_the_rack)
         .map_err(|refusal| explained(refusal, &keyed, &block, None))?;
     let schedule = Schedule::try_from(&keyed.bytes[..]).expect("the library has taken it");
     let block: Block = block.bytes.try_into().expect("the library has taken it");
-    let plain = schedule.record(&block);
+    let made = Made::new(&schedule, block, at_the_rack, step);
+    if json {
+        made.print_json(out)?;
+    } else {
+        made.print(out)?;
+    }
+    match 16 - made.equal() {
+        0 => Ok(()),
+        1 => Err(Fault::data("1 of 16 offsets gives another key than the rack's")),
+        others => Err(Fault::data(format!("{others} of 16 offsets give another key than the rack's"))),
+    }
+}
 
-    writeln!(out, "The pipe's key, made of the block {}", digits(&block))?;
-    writeln!(out, "  {:<38}{}", "by the rack", digits(&at_the_rack))?;
-    writeln!(out, "  by the module with the published masks, step {}, at each offset", step.number())?;
-    writeln!(out, "  {:<38}{:<34}equal", "    the block as it is covered", "the key")?;
-    let (mut equal, mut states, mut bytes) = (0, Range::new(), Range::new());
-    for offset in Offset::all() {
-        let in_the_module = schedule.encrypt_published(&block, offset, step);
-        let covered = schedule.record_masked(&block, &Masks::PUBLISHED, offset, step);
-        let same = in_the_module == at_the_rack;
-        equal += usize::from(same);
-        states.add(plain.states().zip(covered.states()).filter(|(x, y)| x.1 != y.1).count());
-        bytes.add(plain.as_bytes().iter().zip(covered.as_bytes()).filter(|(x, y)| x != y).count());
-        let (number, same) = (offset.number(), if same { "yes" } else { "NO" });
-        writeln!(out, "  {number:>2}  {}  {}  {same}", digits(covered.state(0)), digits(&in_the_module))?;
+/// The key as the rack makes it, and as the module makes it at each offset.
+struct Made {
+    block: Block,
+    at_the_rack: Block,
+    step: Step,
+    in_the_module: Vec<InTheModule>,
+    /// How many recorded states, and how many of their bytes, differ from the rack's.
+    states: Range,
+    bytes: Range,
+}
+
+struct InTheModule {
+    offset: Offset,
+    /// The block as it is covered, and the key.
+    covered: Block,
+    key: Block,
+    equal: bool,
+}
+
+impl Made {
+    fn new(schedule: &Schedule, block: Block, at_the_rack: Block, step: Step) -> Made {
+        let plain = schedule.record(&block);
+        let (mut states, mut bytes) = (Range::new(), Range::new());
+        let in_the_module = Offset::all().map(|offset| {
+            let key = schedule.encrypt_published(&block, offset, step);
+            let covered = schedule.record_masked(&block, &Masks::PUBLISHED, offset, step);
+            states.add(plain.states().zip(covered.states()).filter(|(x, y)| x.1 != y.1).count());
+            bytes.add(plain.as_bytes().iter().zip(covered.as_bytes()).filter(|(x, y)| x != y).count());
+            InTheModule { offset, covered: *covered.state(0), key, equal: key == at_the_rack }
+        });
+        let in_the_module = in_the_module.collect();
+        Made { block, at_the_rack, step, in_the_module, states, bytes }
     }
-    writeln!(out, "{equal} of 16 offsets give the rack's key. On the way {states} of 71 recorded states")?;
-    writeln!(out, "differ from the rack's, in {bytes} of 1136 bytes.")?;
-    if equal < 16 {
-        return Err(Fault::data(format!("{} of 16 offsets give another key than the rack's", 16 - equal)));
+
+    fn equal(&self) -> usize {
+        self.in_the_module.iter().filter(|made| made.equal).count()
     }
-    Ok(())
+
+    fn print(&self, out: &mut dyn Write) -> io::Result<()> {
+        writeln!(out, "The pipe's key, made of the block {}", digits(&self.block))?;
+        writeln!(out, "  {:<38}{}", "by the rack", digits(&self.at_the_rack))?;
+        writeln!(out, "  by the module with the published masks, step {}, at each offset", self.step.number())?;
+        writeln!(out, "  {:<38}{:<34}equal", "    the block as it is covered", "the key")?;
+        for InTheModule { offset, covered, key, equal } in &self.in_the_module {
+            let (number, equal) = (offset.number(), if *equal { "yes" } else { "NO" });
+            writeln!(out, "  {number:>2}  {}  {}  {equal}", digits(covered), digits(key))?;
+        }
+        let gives = if self.equal() == 1 { "gives" } else { "give" };
+        writeln!(out, "{} of 16 offsets {gives} the rack's key. On the way {} of 71 recorded states", self.equal(), self.states)?;
+        writeln!(out, "differ from the rack's, in {} of 1136 bytes.", self.bytes)
+    }
+
+    fn print_json(&self, out: &mut dyn Write) -> io::Result<()> {
+        writeln!(out, "{{\n  \"block\": \"{}\",\n  \"rack\": \"{}\",", digits(&self.block), digits(&self.at_the_rack))?;
+        writeln!(out, "  \"step\": {},\n  \"module\": [", self.step.number())?;
+        for InTheModule { offset, covered, key, equal } in &self.in_the_module {
+            let (number, covered, key) = (offset.number(), digits(covered), digits(key));
+            let comma = if number < 15 { "," } else { "" };
+            write!(out, "    {{\"offset\": {number}, \"covered\": \"{covered}\", \"key\": \"{key}\", ")?;
+            writeln!(out, "\"equal\": {equal}}}{comma}")?;
+        }
+        writeln!(out, "  ],\n  \"equal\": {},", self.equal())?;
+        writeln!(out, "  \"states_differ\": {},\n  \"bytes_differ\": {}\n}}", self.states.json(71), self.bytes.json(1136))
+    }
 }
 
 /// The least and the greatest of some counts.
@@ -53,6 +106,10 @@ impl Range {
 
     fn add(&mut self, count: usize) {
         *self = Range(self.0.min(count), self.1.max(count));
+    }
+
+    fn json(&self, of: usize) -> String {
+        format!("{{\"least\": {}, \"most\": {}, \"of\": {of}}}", self.0, self.1)
     }
 }
 

@@ -11,7 +11,8 @@ pub struct Progress {
     pause: Duration,
     last: Instant,
     next: Option<Instant>,
-    shown: bool,
+    /// The length of the line that is shown.
+    shown: usize,
 }
 
 impl Progress {
@@ -19,7 +20,7 @@ impl Progress {
     pub fn start(pause: Duration) -> Progress {
         let last = Instant::now();
         let next = if error_is_a_terminal() { Some(last + PATIENCE) } else { None };
-        Progress { pause, last, next, shown: false }
+        Progress { pause, last, next, shown: 0 }
     }
 
     /// Where it is time, shows a line, which is made with the time since the last one, or since the start.
@@ -30,8 +31,9 @@ impl Progress {
         };
         let now = Instant::now();
         if next <= now {
-            tell(&format!("\r{}\x1b[K", line(now - self.last)));
-            (self.last, self.next, self.shown) = (now, Some(now + self.pause), true);
+            let line = line(now - self.last);
+            tell(&format!("\r{line:<width$}", width = self.shown));
+            (self.last, self.next, self.shown) = (now, Some(now + self.pause), line.len());
         }
     }
 }
@@ -39,8 +41,8 @@ impl Progress {
 /// The line is wiped, so that what follows has it for itself.
 impl Drop for Progress {
     fn drop(&mut self) {
-        if self.shown {
-            tell("\r\x1b[K");
+        if self.shown > 0 {
+            tell(&format!("\r{:width$}\r", "", width = self.shown));
         }
     }
 }

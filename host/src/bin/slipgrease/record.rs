@@ -1,27 +1,55 @@
-//! The record of a run: plain, masked, or two runs side by side, as text or as a picture.
+//! The record of a run: plain or masked, alone, beside a second run or beside a receiver's dump, as text, JSON or a picture.
 
-use crate::cipher::{explained, Keyed, Masking};
+mod compare;
+mod dump;
+mod json;
+mod private;
+mod run;
+mod summary;
+
+pub use compare::{Kind, Pair};
+pub use run::Run;
+pub use summary::sentences;
+
+use crate::cipher::{Keyed, Masking};
 use crate::fault::Fault;
-use crate::hex::digits;
 use crate::svg;
 use crate::table;
 use crate::words::{Given, Number, Words};
-use slipgrease::{Direction, Masks, Offset, Refusal, Step};
-use std::fs;
+use run::Asked;
+use slipgrease::Direction;
+use std::ffi::OsStr;
 use std::io::Write;
 
+/// Where two runs differ, or a run and a dump, the answer is no.
 pub fn record(words: &mut Words, out: &mut dyn Write) -> Result<(), Fault> {
     let direction = if words.flag("decrypt")? { Direction::Decryption } else { Direction::Encryption };
-    let picture = words.option("svg")?;
+    let (json, picture, dump) = (words.flag("json")?, words.file_of("svg")?, words.file_of("against")?);
+    if dump.as_deref() == Some(OsStr::new("-")) {
+        words.input().hold("the dump")?;
+    }
     let (offset, step, masks) = (words.number_of("offset")?, words.number_of("step")?, words.bytes_of("masks")?);
     let (offset2, step2, masks2) = (words.number_of("offset2")?, words.number_of("step2")?, words.bytes_of("masks2")?);
     let (key2, block2) = (words.bytes_of("key2")?, words.bytes_of("block2")?);
-    let keyed = Keyed::read(words)?;
-    let block = words.bytes("block")?;
-    words.end()?;
+    let (keyed, block) = Keyed::read(words, |words| words.bytes("block"))?;
 
+    let of_second = [
+        ("--offset2", offset2.is_some()),
+        ("--step2", step2.is_some()),
+        ("--masks2", masks2.is_some()),
+        ("--key2", key2.is_some()),
+        ("--block2", block2.is_some()),
+    ];
+    let two = of_second.iter().find(|(_, is_given)| *is_given).map(|(option, _)| option);
+    if let (Some(option), Some(_)) = (two, &dump) {
+        return Err(Fault::caller(format!(
+            "--against and {option} cannot be given together: a run is put beside a dump or beside a second run"
+        )));
+    }
+    if json && picture.as_deref() == Some(OsStr::new("-")) {
+        return Err(Fault::caller("--json and --svg - cannot be given together: standard output takes one of them"));
+    }
     // What the second run is not given it has from the first.
-    let two = offset2.is_some() || step2.is_some() || masks2.is_some() || key2.is_some() || block2.is_some();
     let second = Asked {
         direction,
         keyed: key2.map_or(Ok(keyed.clone()), Keyed::expand)?,
@@ -29,14 +57,47 @@ pub fn record(words: &mut Words, out: &mut dyn Write) -> Result<(), Fault> {
         masking: masking(offset2.or_else(|| offset.clone()), step2.or_else(|| step.clone()), masks2.or_else(|| masks.clone()))?,
     };
     let first = Run::new(Asked { direction, keyed, block, masking: masking(offset, step, masks)? })?;
-    let second = if two { Some(Run::new(second)?) } else { None };
+    let second = if two.is_some() { Some(Run::new(second)?) } else { None };
+    let pair = match (&second, dump) {
+        (Some(second), _) => Some(Pair::of_runs(&first, second)),
+        (None, Some(file)) => Some(beside_dump(&first, &file, words)?),
+        (None, None) => None,
+    };
 
-    match picture {
-        None => out.write_all(table::table(&first, second.as_ref()).as_bytes())?,
-        Some(file) => fs::write(&file, svg::picture(&first, second.as_ref()))
-            .map_err(|error| Fault::caller(format!("--svg {file}: {error}")))?,
+    if let Some(file) = &picture {
+        draw(file, &first, pair.as_ref(), out, words)?;
     }
-    Ok(())
+    match (&picture, &pair) {
+        _ if json => out.write_all(json::record(&first, second.as_ref(), pair.as_ref()).as_bytes())?,
+        (None, pair) => out.write_all(table::table(&first, pair.as_ref()).as_bytes())?,
+        (Some(file), Some(pair)) if file != "-" => writeln!(out, "{}", sentences(pair).join("\n"))?,
+        (Some(_), _) => (),
+    }
+    match pair.and_then(|pair| pair.first()) {
+        Some(_) => Err(Fault::no()),
+        None => Ok(()),
+    }
+}
+
+/// The run and the dump in a file, or on standard input.
+fn beside_dump(run: &Run, file: &OsStr, words: &mut Words) -> Result<Pair, Fault> {
+    let mut opened;
+    let input = if file == "-" {
+        words.input()
+    } else {
+        opened = words.open(file)?;
+        &mut opened
+    };
+    let states = dump::read(input, run.direction)?;
+    Ok(Pair::with_dump(run, &input.name, states))
+}
+
+/// To a file that is its owner's alone and none of those that were read, or to standard output.
+fn draw(file: &OsStr, first: &Run, pair: Option<&Pair>, out: &mut dyn Write, words: &Words) -> Result<(), Fault> {
+    match file == "-" {
+        true => Ok(out.write_all(svg::picture(first, pair, false).as_bytes())?),
+        false => private::write(file, &svg::picture(first, pair, true), &words.files_read()?),
+    }
 }
 
 fn masking(offset: Option<Number>, step: Option<Number>, masks: Option<Given>) -> Result<Option<Masking>, Fault> {
@@ -46,77 +107,5 @@ fn masking(offset: Option<Number>, step: Option<Number>, masks: Option<Given>) -
         (None, _, Some(_)) => without_offset("masks are given"),
         (None, Some(_), None) => without_offset("a step is given"),
         (None, None, None) => Ok(None),
-    }
-}
-
-/// What a run is asked for with.
-struct Asked {
-    direction: Direction,
-    keyed: Keyed,
-    block: Given,
-    masking: Option<Masking>,
-}
-
-/// A run: which way it goes, what it is called, its offset and step if it is masked, its states, and those of the plain run.
-pub struct Run {
-    pub direction: Direction,
-    pub title: String,
-    pub block: Vec<u8>,
-    pub masked: Option<(Offset, Step)>,
-    pub states: Vec<u8>,
-    pub plain: Vec<u8>,
-}
-
-impl Run {
-    fn new(asked: Asked) -> Result<Run, Fault> {
-        let Asked { direction, keyed, block, masking } = asked;
-        let refused = |refusal| explained(refusal, &keyed, &block, masking.as_ref());
-        let mut plain = vec![0; 16 * direction.states()];
-        let mut states = plain.clone();
-        let kind = match &masking {
-            None => {
-                record_plain(direction, &keyed.bytes, &block.bytes, &mut states).map_err(refused)?;
-                "plain".to_string()
-            }
-            Some(Masking { masks, offset, step }) => {
-                let bytes = masks.as_ref().map_or(&Masks::PUBLISHED.as_bytes()[..], |masks| &masks.bytes);
-                let (offset, step) = (offset.value, Number::step(step));
-                let record = match direction {
-                    Direction::Encryption => slipgrease::record_masked,
-                    Direction::Decryption => slipgrease::record_masked_decryption,
-                };
-                record(&keyed.bytes, &block.bytes, bytes, offset, step, &mut states).map_err(refused)?;
-                let named = masks.as_ref().map_or("the published masks".to_string(), |_| format!("masks {}", digits(bytes)));
-                format!("offset {offset}, step {step}, {named}")
-            }
-        };
-        record_plain(direction, &keyed.bytes, &block.bytes, &mut plain).map_err(refused)?;
-        let title = match direction {
-            Direction::Encryption => kind,
-            Direction::Decryption => format!("decryption, {kind}"),
-        };
-        let taken = "the library has taken it";
-        let offset = |masking: &Masking| Offset::new(masking.offset.value).expect(taken);
-        let step = |masking: &Masking| Step::new(Number::step(&masking.step)).expect(taken);
-        let masked = masking.map(|masking| (offset(&masking), step(&masking)));
-        Ok(Run { direction, title, block: block.bytes, masked, states, plain })
-    }
-
-    /// Its title and its block.
-    pub fn named(&self) -> String {
-        format!("{}, block {}", self.title, digits(&self.block))
-    }
-
-    /// Sixteen bytes for each point: the mask over the state, which is what the plain state and the recorded one differ in.
-    pub fn masks(&self) -> Vec<u8> {
-        self.plain.iter().zip(&self.states).map(|(plain, covered)| plain ^ covered).collect()
-    }
-}
-
-/// The library records no plain decryption by itself; but sixteen masks 00 cover nothing, at any offset and with any step.
-fn record_plain(direction: Direction, schedule: &[u8], block: &[u8], states: &mut [u8]) -> Result<(), Refusal> {
-    match direction {
-        Direction::Encryption => slipgrease::record_plain(schedule, block, states),
-        Direction::Decryption => slipgrease::record_masked_decryption(schedule, block, &[0; 16], 0, 1, states),
     }
 }

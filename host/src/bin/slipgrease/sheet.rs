@@ -2,18 +2,19 @@
 
 use crate::fault::Fault;
 use crate::hex::digits;
+use crate::shown::brief;
 use crate::words::{Number, Words};
 use slipgrease::Refusal;
 use std::io::Write;
 
 pub fn sheet(words: &mut Words, out: &mut dyn Write) -> Result<(), Fault> {
     let step = words.number_of("step")?;
-    let (direction, _) = words.word("read or write")?;
+    let (direction, _) = words.word("word read or write")?;
     match (direction.as_str(), step) {
         ("read", None) => read(words, out),
         ("read", Some(_)) => Err(Fault::caller("sheet read: the step is in the sheet, and --step is for sheet write")),
         ("write", step) => write(words, step, out),
-        (other, _) => Err(Fault::caller(format!("sheet {other}: read or write is expected"))),
+        (other, _) => Err(Fault::caller(format!("sheet {}: read or write is expected", brief(other)))),
     }
 }
 
@@ -22,7 +23,10 @@ fn read(words: &mut Words, out: &mut dyn Write) -> Result<(), Fault> {
     words.end()?;
     let mut masks = [0; 16];
     let step = slipgrease::read_sheet(&sheet.bytes, &mut masks).map_err(|refusal| match (refusal, sheet.bytes.get(21)) {
-        (Refusal::StepWrong, Some(step)) => Fault::refused(refusal, &format!("{}, {}: step {step}", sheet.what, sheet.place)),
+        (Refusal::StepWrong, Some(step)) => {
+            let seen = format!("{}, {}: step {step}", sheet.what, sheet.place);
+            Fault::refused_as(refusal, &seen, "a sheet of version 2 has a step from 4 to 15")
+        }
         _ => sheet.refused(refusal),
     })?;
     writeln!(out, "{}\nstep {step}", digits(&masks))?;
@@ -47,5 +51,8 @@ pub fn fitness(words: &mut Words, out: &mut dyn Write) -> Result<(), Fault> {
     words.end()?;
     let fit = slipgrease::fitness(&masks.bytes).map_err(|refusal| masks.refused(refusal))?;
     writeln!(out, "{} {}", u8::from(fit), if fit { "fit" } else { "unfit" })?;
-    Ok(())
+    match fit {
+        true => Ok(()),
+        false => Err(Fault::no()),
+    }
 }

@@ -40,14 +40,20 @@ fn through(way: Way, words: &mut Words, out: &mut dyn Write, notes: &mut dyn Wri
     let list =
         list.ok_or_else(|| Fault::caller("--pipes is missing: a file with a line for each of the seven pipes is expected"))?;
     let (list, from) = (End::input(Some(list))?, End::input(from)?);
-    if list.is_standard() && from.is_standard() {
-        return Err(Fault::caller("standard input cannot be both the file of pipes and the stream"));
+    if list.is_standard() {
+        words.input().hold("the file of pipes")?;
     }
-    let pipes = list::read(&list, words.input())?;
+    if from.is_standard() {
+        words.input().hold("the stream")?;
+    }
+    let pipes = list::read(&list, words.input().reader())?;
     let to = End::output(to, &[&list, &from])?;
-    let mut run = Run::new(pass, &from.name, &to.name);
-    let done = run.through(pipes.stream(way), &mut from.reader(words.input()), &mut to.writer(out));
-    // What became of the stream does not depend on whether the table arrives.
-    let _ = notes.write_all(run.table().as_bytes()).and_then(|()| notes.flush());
-    done
+    let mut run = Run::new(pass, from.name(), to.name());
+    let done = run.through(pipes.stream(way), &mut from.reader(words.input().reader()), &mut to.writer(out));
+    let told = notes.write_all(run.table().as_bytes()).and_then(|()| notes.flush());
+    match told.map_err(|error| Fault::at("standard error", error)) {
+        // A table that is lost is a failure to write, whatever became of the stream.
+        Err(lost) if lost.is_told() => Err(lost),
+        _ => done,
+    }
 }

@@ -1,10 +1,16 @@
 //! Commands as they are typed. What is expected is from FIPS 197, the scope's own examples, or worked out here.
 
+mod asked;
 mod decryption;
 mod folder;
+mod given;
+mod input;
+mod random;
+mod record;
 mod steps;
 mod stored;
 mod stream;
+mod vectors;
 mod wrap;
 
 use super::{help, run, COMMANDS};
@@ -13,6 +19,7 @@ use std::ffi::OsString;
 use std::fs;
 
 const KEY: &str = "000102030405060708090a0b0c0d0e0f101112131415161718191a1b1c1d1e1f";
+const NIST_KEY: &str = "603deb1015ca71be2b73aef0857d77811f352c073b6108d72d9810a30914dff4";
 const BLOCK: &str = "00112233445566778899aabbccddeeff";
 const CIPHERTEXT: &str = "8ea2b7ca516745bfeafc49904b496089";
 const PUBLISHED: &str = "000f3639535c656a959aa3acc6c9f0ff";
@@ -54,12 +61,17 @@ fn piped(line: &str, input: &str) -> String {
     })
 }
 
-/// An example whose last line is three dots is printed so far, and any other in full. The file of vectors has C.3 alone, and the
-/// partner's the key of RFC 3394, 4.6. What one example writes to a file the next one reads.
+/// An example whose last line is three dots is printed so far, and any other in full. The file of vectors has C.3 alone, the key is
+/// that of C.3 and NIST's that of SP 800-38A, and the partner's is wrapped as in RFC 3394, 4.6. What one example writes to a file the
+/// next one reads.
 #[test]
 fn the_examples_of_the_help_print_what_they_show() {
     let folder = Folder::new("example");
     folder.file("vectors.txt", format!("{KEY} {BLOCK} {CIPHERTEXT}\n"));
+    folder.file("key.txt", format!("{KEY}\n"));
+    folder.file("nist.txt", format!("{NIST_KEY}\n"));
+    folder.file("partner.txt", wrap::PARTNER_FILE);
+    folder.file("ECBGFSbox256.rsp", vectors::gfsbox());
     folder.file("pipes.txt", stream::list());
     let clear = folder.file("clear.ts", stream::example());
     for (name, _) in COMMANDS {
@@ -68,15 +80,15 @@ fn the_examples_of_the_help_print_what_they_show() {
             said.lines().filter_map(|line| line.strip_prefix("    ")).map(|line| format!("{line}\n")).collect();
         for example in examples.split("$ slipgrease ").skip(1) {
             let (command, shown) = example.split_once('\n').unwrap();
-            let words = command.split(' ').map(|word| match word.split_once('.') {
-                Some((_, "txt" | "ts")) if !word.starts_with('<') => folder.path(word),
-                _ => word.to_string(),
-            });
-            let command = words.collect::<Vec<_>>().join(" ");
-            let printed = match command.split_once(" <partner.txt") {
-                Some((first, rest)) => piped(&format!("{first}{rest}"), wrap::PARTNER_FILE),
-                None => printed(&command),
-            };
+            let (mut words, mut input) = (Vec::new(), String::new());
+            for word in command.split(' ') {
+                match (word.strip_prefix('<'), word.rsplit_once('.')) {
+                    (Some(file), _) => input = fs::read_to_string(folder.path(file)).unwrap(),
+                    (None, Some((_, "txt" | "ts"))) => words.push(folder.path(word)),
+                    _ => words.push(word.to_string()),
+                }
+            }
+            let printed = piped(&words.join(" "), &input);
             match shown.strip_suffix("...\n") {
                 Some(beginning) => assert!(printed.starts_with(beginning), "{printed}"),
                 None => assert_eq!(printed, shown),
@@ -99,7 +111,7 @@ fn missing_arguments_are_read_from_standard_input() {
     assert_eq!((out.trim(), failed), (CIPHERTEXT, None));
     let (out, failed) = typed(&format!("encrypt {KEY}"), BLOCK);
     assert_eq!((out.trim(), failed), (CIPHERTEXT, None));
-    let message = "block is missing: it is expected as an argument or on standard input; slipgrease encrypt --help says more";
+    let message = "the block is missing: it is expected as an argument or on standard input; slipgrease encrypt --help says more";
     assert_eq!(refused(&format!("encrypt {KEY}")), (message.to_string(), 1));
 }
 
@@ -116,20 +128,20 @@ fn the_module_makes_the_ciphertext_and_the_plaintext_at_every_offset() {
 /// SP 800-38A, F.1.5, its last block before the third.
 #[test]
 fn blocks_are_made_in_their_order() {
-    let key = "603deb1015ca71be2b73aef0857d77811f352c073b6108d72d9810a30914dff4";
+    let key = NIST_KEY;
     let (third, last) = ("30c81c46a35ce411e5fbc1191a0a52ef", "f69f2445df4f9b17ad2b417be66c3710");
-    let made = printed(&format!("blocks --offsets 030f {key} {last} {third}"));
+    let made = printed(&format!("blocks --offsets 3,15 {key} {last} {third}"));
     assert_eq!(made, "23304b7a39f9f3ff067d8d8f9e24ecc7\nb6ed21b99ca6f4f9f153e7b1beafed1d\n");
-    let (out, failed) = typed("blocks --offsets 000f07", &format!("{KEY}\n{BLOCK} {BLOCK}\n{BLOCK}\n"));
+    let (out, failed) = typed("blocks --offsets 0,15,07", &format!("{KEY}\n{BLOCK} {BLOCK}\n{BLOCK}\n"));
     assert_eq!((out, failed), (format!("{CIPHERTEXT}\n").repeat(3), None));
-    let (out, failed) = typed(&format!("blocks --offsets - {KEY}"), "");
+    let (out, failed) = typed(&format!("blocks --offsets= {KEY}"), "");
     assert_eq!((out.as_str(), failed), ("", None));
 }
 
 /// They all differ, but their upper four bits are 0.
 #[test]
 fn masks_00_to_0f_are_unfit() {
-    assert_eq!(printed("fitness 000102030405060708090a0b0c0d0e0f"), "0 unfit\n");
+    assert_eq!(typed("fitness 000102030405060708090a0b0c0d0e0f", ""), ("0 unfit\n".to_string(), Some((String::new(), 3))));
 }
 
 /// What was wrong, where, what was expected, and the library's number, sorted by the library.
@@ -144,40 +156,34 @@ fn refusals_say_what_was_wrong() {
             "schedule, option --schedule: 32 bytes: the schedule is not 240 bytes long (reply 2, SCHEDULE_LENGTH)",
             1,
         ),
-        (
-            format!("decrypt {KEY} {KEY}"),
-            "block, argument 2: 32 bytes: the input is not 16 bytes long; of many blocks, not 16 for each of 256 at most \
-             (reply 3, INPUT_LENGTH)",
-            1,
-        ),
+        (format!("decrypt {KEY} {KEY}"), "block, argument 2: 32 bytes: a block is 16 bytes (reply 3, INPUT_LENGTH)", 1),
         (
             format!("record --offset 0 --masks 00 {KEY} {BLOCK}"),
-            "masks, option --masks: 1 bytes: the mask table is not 16 bytes long (reply 5, MASKS_LENGTH)",
+            "masks, option --masks: 1 byte: the mask table is not 16 bytes long (reply 5, MASKS_LENGTH)",
             1,
         ),
-        (format!("mask --offset 16 {KEY} {BLOCK}"), "--offset 16: an offset is above 15 (reply 6, OFFSET_RANGE)", 1),
-        (format!("mask --offset 272 {KEY} {BLOCK}"), "--offset 272: an offset is above 15 (reply 6, OFFSET_RANGE)", 1),
-        (format!("unmask --offset 16 {KEY} {BLOCK}"), "--offset 16: an offset is above 15 (reply 6, OFFSET_RANGE)", 1),
-        (format!("record --decrypt --offset 16 {KEY} {BLOCK}"), "--offset 16: an offset is above 15 (reply 6, OFFSET_RANGE)", 1),
+        (format!("mask --offset 16 {KEY} {BLOCK}"), "--offset 16: an offset is 0 to 15 (reply 6, OFFSET_RANGE)", 1),
+        (format!("mask --offset 272 {KEY} {BLOCK}"), "--offset 272: an offset is 0 to 15 (reply 6, OFFSET_RANGE)", 1),
+        (format!("unmask --offset 16 {KEY} {BLOCK}"), "--offset 16: an offset is 0 to 15 (reply 6, OFFSET_RANGE)", 1),
+        (format!("record --decrypt --offset 16 {KEY} {BLOCK}"), "--offset 16: an offset is 0 to 15 (reply 6, OFFSET_RANGE)", 1),
         (
             format!("unmask --offset 16 --masks 00 {KEY} {BLOCK}"),
-            "masks, option --masks: 1 bytes: the mask table is not 16 bytes long (reply 5, MASKS_LENGTH)",
+            "masks, option --masks: 1 byte: the mask table is not 16 bytes long (reply 5, MASKS_LENGTH)",
             1,
         ),
         (
-            format!("blocks --offsets 00 {KEY} {BLOCK} 00"),
-            "blocks, the last arguments: 17 bytes: the input is not 16 bytes long; of many blocks, not 16 for each of 256 at most \
-             (reply 3, INPUT_LENGTH)",
+            format!("blocks --offsets 0 {KEY} {BLOCK} 00"),
+            "blocks, the last arguments: 17 bytes: a block is 16 bytes, and at most 256 are taken (reply 3, INPUT_LENGTH)",
             1,
         ),
         (
-            format!("blocks --offsets 00 {KEY} {BLOCK} {BLOCK}"),
-            "offsets, option --offsets: 1 bytes: there is not one offset for each block (reply 14, OFFSETS_LENGTH)",
+            format!("blocks --offsets 0 {KEY} {BLOCK} {BLOCK}"),
+            "--offsets: 1 offset for 2 blocks: there is not one offset for each block (reply 14, OFFSETS_LENGTH)",
             1,
         ),
         (
-            format!("blocks --offsets 0010 {KEY} {BLOCK} {BLOCK}"),
-            "offsets, option --offsets: 10 for block 1: an offset is above 15 (reply 6, OFFSET_RANGE)",
+            format!("blocks --offsets 0,16 {KEY} {BLOCK} {BLOCK}"),
+            "--offsets, for block 2: 16: an offset is 0 to 15 (reply 6, OFFSET_RANGE)",
             1,
         ),
         (
@@ -205,7 +211,7 @@ fn refusals_say_what_was_wrong() {
 fn what_never_reaches_the_library_is_a_caller_fault() {
     let cases = [
         ("expand 0g", "key, argument 1: 'g' at digit 2 is not a hex digit"),
-        ("expand 012", "key, argument 1: 3 hex digits are half a byte too many; a byte is two"),
+        ("expand 012", "key, argument 1: 3 hex digits, and a byte is two"),
         ("sheet burn", "sheet burn: read or write is expected"),
         ("melt", "no command melt; slipgrease --help lists them"),
         ("expand --fast 00", "no option --fast here; slipgrease expand --help says more"),
@@ -214,11 +220,11 @@ fn what_never_reaches_the_library_is_a_caller_fault() {
             "encrypt --schedule",
             "--schedule is the last word, and a value is expected behind it; slipgrease encrypt --help says more",
         ),
-        ("mask --offset x", "--offset x: a decimal number is expected; slipgrease mask --help says more"),
+        ("mask --offset x", "--offset x: a decimal number from 0 to 15 is expected; slipgrease mask --help says more"),
         ("mask --offset 1 --offset 2", "--offset is given twice; slipgrease mask --help says more"),
         ("record --decrypt 00 --decrypt", "--decrypt is given twice; slipgrease record --help says more"),
         ("mask --offset 1 --decrypt 00", "no option --decrypt here; slipgrease mask --help says more"),
-        ("fitness 00 00", "00 is one word too many; slipgrease fitness --help says more"),
+        ("fitness 00 00", "argument 2 is one word too many; slipgrease fitness --help says more"),
     ];
     for (line, message) in cases {
         assert_eq!(refused(line), (message.to_string(), 1));
@@ -244,39 +250,6 @@ fn a_masked_record_has_each_state_with_its_mask() {
 }
 
 #[test]
-fn two_runs_stand_side_by_side() {
-    let said = printed(&format!("record --offset 0 --offset2 1 {KEY} {BLOCK}"));
-    let rows: Vec<&str> = said.lines().collect();
-    assert_eq!(rows.len(), 2 + 1 + 71);
-    // The first two masks are 00 and 0f, the last 00's neighbour ff.
-    assert!(rows[3].contains("  0f39"), "{}", rows[3]);
-    assert!(rows[73].ends_with(&format!("{CIPHERTEXT}  {CIPHERTEXT}  {}      0", ".".repeat(32))), "{}", rows[73]);
-    let plain = printed(&format!("record {KEY} {BLOCK} --block2 {BLOCK}"));
-    assert_eq!(plain.matches(&".".repeat(32)).count(), 71);
-}
-
-#[test]
-fn a_picture_has_a_cell_for_every_byte() {
-    let folder = Folder::new("picture");
-    let file = folder.path("run.svg");
-    for (direction, block, made, bytes) in [("", BLOCK, CIPHERTEXT, 1136), (" --decrypt", CIPHERTEXT, BLOCK, 1360)] {
-        for (more, panels, pale) in [("", 1, 0), (" --offset 3", 3, 0), (" --offset 3 --offset2 3", 3, 3)] {
-            assert_eq!(printed(&format!("record --svg {file} {KEY} {block}{direction}{more}")), "");
-            let svg = fs::read_to_string(&file).unwrap();
-            let legend = 16;
-            assert_eq!(svg.matches("<text class=\"byte").count(), panels * bytes + legend);
-            assert_eq!(svg.matches("byte pale").count(), pale * bytes);
-            assert_eq!(svg.matches("<text class=\"round\"").count(), 14);
-            // Round r of an encryption has key r, and of a decryption key 13 - r.
-            let keys = [">key</text>", ">key 14</text>", ">key 0</text>"].map(|key| svg.matches(key).count());
-            assert_eq!(keys, if direction.is_empty() { [14, 1, 0] } else { [0, 1, 1] });
-            assert_eq!(svg.matches(&format!("text {made}</text>")).count(), usize::from(pale == 0));
-            assert!(svg.starts_with("<svg ") && svg.ends_with("</svg>\n"));
-        }
-    }
-}
-
-#[test]
 fn the_pipe_s_key_is_the_rack_s_sixteen_times() {
     let said = printed(&format!("pipe {KEY} {BLOCK}"));
     assert_eq!(said.matches(CIPHERTEXT).count(), 17);
@@ -285,27 +258,4 @@ fn the_pipe_s_key_is_the_rack_s_sixteen_times() {
     assert!(said.contains(" 70 of 71 recorded states\n"));
     assert!(said.contains("\n  15  ff112d05"));
     assert!(said.lines().count() <= 24 && said.lines().all(|line| line.len() <= 80));
-}
-
-#[test]
-fn vectors_are_counted_and_a_wrong_one_is_a_data_fault() {
-    let folder = Folder::new("vectors");
-    let file = folder.path("vectors.txt");
-    let line = format!("vectors {file}");
-    fs::write(&file, format!("# C.3\n\n{KEY} {BLOCK} {CIPHERTEXT} # and a word on it\n")).unwrap();
-    assert_eq!(printed(&line), "vectors 1, compared 34, differ 0\n");
-    fs::write(&file, format!("{KEY} {BLOCK} {BLOCK}\n")).unwrap();
-    let (out, failed) = typed(&line, "");
-    assert!(out.ends_with("vectors 1, compared 34, differ 34\n"));
-    assert_eq!(failed.unwrap().1, 2);
-    fs::write(&file, format!("{KEY} {BLOCK}\n")).unwrap();
-    assert_eq!(refused(&line).1, 1);
-    fs::write(&file, format!("{KEY} {BLOCK} 00\n")).unwrap();
-    assert!(refused(&line)
-        .0
-        .ends_with("line 1, ciphertext: 1 bytes: the input is not 16 bytes long; of many blocks, not 16 for each of 256 at most (reply 3, INPUT_LENGTH)"));
-    fs::write(&file, "# C.3\n").unwrap();
-    assert!(refused(&line).0.contains("no vector in it"));
-    fs::remove_file(file).unwrap();
-    assert_eq!(refused(&line).1, 1);
 }

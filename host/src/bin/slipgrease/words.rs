@@ -1,44 +1,15 @@
-//! What a command is given: options, arguments, and where arguments are missing, the words of standard input.
+//! What a command is given: options, arguments, and where arguments are missing or are a dash, the words of standard input.
 
 use crate::fault::Fault;
-use crate::hex;
-use slipgrease::{Refusal, Step};
-use std::ffi::OsString;
+use crate::given::text;
+pub use crate::given::{given, number, Given, Number};
+use crate::input::Input;
+use crate::opened::Opened;
+use crate::shown::brief;
+use slipgrease::Step;
+use std::ffi::{OsStr, OsString};
 use std::io::BufRead;
-
-/// Bytes, what they are called and where they were read.
-#[derive(Clone)]
-pub struct Given {
-    pub what: &'static str,
-    pub place: String,
-    pub bytes: Vec<u8>,
-}
-
-impl Given {
-    /// Says the length that was given, in front of what the library says of it.
-    pub fn refused(&self, refusal: Refusal) -> Fault {
-        Fault::refused(refusal, &format!("{}, {}: {} bytes", self.what, self.place, self.bytes.len()))
-    }
-}
-
-/// A number, and the word that it was given as.
-#[derive(Clone)]
-pub struct Number {
-    what: &'static str,
-    word: String,
-    pub value: u8,
-}
-
-impl Number {
-    /// The step that was given, and 1 where none was.
-    pub fn step(given: &Option<Number>) -> u8 {
-        given.as_ref().map_or(1, |step| step.value)
-    }
-
-    pub fn refused(&self, refusal: Refusal) -> Fault {
-        Fault::refused(refusal, &format!("--{} {}", self.what, self.word))
-    }
-}
+use std::os::unix::ffi::OsStrExt;
 
 /// What became of an option that masked runs once had.
 const FORM_RETIRED: &str =
@@ -47,16 +18,21 @@ const FORM_RETIRED: &str =
 
 pub struct Words<'a> {
     command: &'a str,
+    /// The words in front of a --, among which options are looked for.
     left: Vec<OsString>,
+    /// Those behind it, which are arguments whatever they begin with.
+    behind: Vec<OsString>,
     taken: usize,
-    input: &'a mut dyn BufRead,
-    waiting: Vec<String>,
-    read: usize,
+    input: Input<'a>,
+    /// The files that were opened.
+    files: Vec<Opened>,
 }
 
 impl<'a> Words<'a> {
     pub fn new(command: &'a str, words: &[OsString], input: &'a mut dyn BufRead) -> Words<'a> {
-        Words { command, left: words.to_vec(), taken: 0, input, waiting: Vec::new(), read: 0 }
+        let mut parts = words.splitn(2, |word| word == "--").map(<[_]>::to_vec);
+        let [left, behind] = [(); 2].map(|()| parts.next().unwrap_or_default());
+        Words { command, left, behind, taken: 0, input: Input::standard(input), files: Vec::new() }
     }
 
     fn usage(&self, message: String) -> Fault {
@@ -64,70 +40,158 @@ impl<'a> Words<'a> {
     }
 
     fn missing(&self, what: &str) -> Fault {
-        self.usage(format!("{what} is missing: it is expected as an argument or on standard input"))
+        let (is, it_is) = if what == "masks" { ("are", "they are") } else { ("is", "it is") };
+        self.usage(format!("the {what} {is} missing: {it_is} expected as an argument or on standard input"))
     }
 
-    /// The word behind an option, if the option is there.
-    pub fn option(&mut self, name: &'static str) -> Result<Option<String>, Fault> {
-        self.file_of(name)?.map(|word| text(word, &format!("option --{name}"))).transpose()
+    /// Where an option stands for the first time, and its value if that is joined to it by an =.
+    fn found(&self, name: &str) -> Option<(usize, Option<OsString>)> {
+        self.left.iter().enumerate().find_map(|(place, word)| {
+            let rest = word.as_bytes().strip_prefix(b"--")?.strip_prefix(name.as_bytes())?;
+            match rest.split_first() {
+                None => Some((place, None)),
+                Some((b'=', value)) => Some((place, Some(OsStr::from_bytes(value).to_os_string()))),
+                Some(_) => None,
+            }
+        })
     }
 
-    /// The same of an option that names a file, whose name may be any bytes.
+    /// No second one may be left where one was taken.
+    fn given_once(&self, name: &str) -> Result<(), Fault> {
+        match self.found(name) {
+            Some(_) => Err(self.usage(format!("--{name} is given twice"))),
+            None => Ok(()),
+        }
+    }
+
+    /// What stands behind an option that names a file, whose name may be any bytes, if the option is there.
     pub fn file_of(&mut self, name: &'static str) -> Result<Option<OsString>, Fault> {
-        let flag = format!("--{name}");
-        let place = match self.left.iter().position(|word| *word == *flag) {
-            Some(place) => place,
+        match self.value_of(name)? {
+            Some(value) if value.is_empty() => Err(self.usage(format!("--{name} '': the name of a file is expected, or -"))),
+            value => Ok(value),
+        }
+    }
+
+    fn value_of(&mut self, name: &'static str) -> Result<Option<OsString>, Fault> {
+        let (place, joined) = match self.found(name) {
+            Some(found) => found,
             None => return Ok(None),
         };
-        if place + 1 == self.left.len() {
-            return Err(self.usage(format!("--{name} is the last word, and a value is expected behind it")));
-        }
-        let value = self.left.remove(place + 1);
         self.left.remove(place);
-        self.given_once(&flag)?;
+        let value = match joined {
+            Some(value) => value,
+            None if place == self.left.len() => {
+                return Err(self.usage(format!("--{name} is the last word, and a value is expected behind it")))
+            }
+            None => self.left.remove(place),
+        };
+        self.given_once(name)?;
         Ok(Some(value))
+    }
+
+    fn text_of(&mut self, name: &'static str) -> Result<Option<String>, Fault> {
+        self.value_of(name)?.map(|word| text(word, &format!("option --{name}"))).transpose()
+    }
+
+    /// The word behind any other option; behind it a dash is the next word of standard input.
+    pub fn option(&mut self, name: &'static str) -> Result<Option<String>, Fault> {
+        match self.text_of(name)? {
+            Some(word) if word == "-" => match self.input.word_for(&format!("--{name}"))? {
+                Some((word, _)) => Ok(Some(word)),
+                None => Err(self.usage(format!("--{name} is missing: it is expected on standard input"))),
+            },
+            other => Ok(other),
+        }
     }
 
     /// Whether an option is there that has no word behind it.
     pub fn flag(&mut self, name: &'static str) -> Result<bool, Fault> {
-        let flag = format!("--{name}");
-        let place = self.left.iter().position(|word| *word == *flag);
-        if let Some(place) = place {
-            self.left.remove(place);
-            self.given_once(&flag)?;
-        }
-        Ok(place.is_some())
-    }
-
-    /// No second one may be left where one was taken.
-    fn given_once(&self, flag: &str) -> Result<(), Fault> {
-        match self.left.iter().any(|word| word == flag) {
-            true => Err(self.usage(format!("{flag} is given twice"))),
-            false => Ok(()),
-        }
-    }
-
-    /// The bytes behind an option; behind a dash they are all of standard input.
-    pub fn bytes_of(&mut self, option: &'static str) -> Result<Option<Given>, Fault> {
-        match self.option(option)? {
-            None => Ok(None),
-            Some(word) if word == "-" => {
-                let mut text = String::new();
-                self.input.read_to_string(&mut text)?;
-                given(option, "standard input".to_string(), &text.split_whitespace().collect::<String>()).map(Some)
+        match self.found(name) {
+            None => Ok(false),
+            Some((_, Some(_))) => Err(self.usage(format!("--{name} takes no value"))),
+            Some((place, None)) => {
+                self.left.remove(place);
+                self.given_once(name)?;
+                Ok(true)
             }
+        }
+    }
+
+    /// The bytes behind an option; behind it a dash is all of standard input.
+    pub fn bytes_of(&mut self, option: &'static str) -> Result<Option<Given>, Fault> {
+        match self.text_of(option)? {
+            None => Ok(None),
+            Some(word) if word == "-" => self.all_of_input(option, &format!("--{option}")).map(Some),
             Some(word) => given(option, format!("option --{option}"), &word).map(Some),
         }
     }
 
+    /// The bytes in the file behind an option.
+    pub fn bytes_in(&mut self, option: &'static str, what: &'static str) -> Result<Option<Given>, Fault> {
+        match self.file_of(option)? {
+            None => Ok(None),
+            Some(file) if file == "-" => self.all_of_input(what, &format!("the {what}")).map(Some),
+            Some(file) => {
+                let mut file = self.open(&file)?;
+                let text = file.all()?;
+                given(what, file.name, &text).map(Some)
+            }
+        }
+    }
+
+    /// Opens a file to be read.
+    pub fn open(&mut self, path: &OsStr) -> Result<Input<'static>, Fault> {
+        let (input, opened) = Input::file(path)?;
+        self.files.push(opened);
+        Ok(input)
+    }
+
+    /// All that is read, standard input too if anything there was asked for.
+    pub fn files_read(&self) -> Result<Vec<Opened>, Fault> {
+        let mut files = self.files.clone();
+        if self.input.is_used() {
+            files.push(Opened::standard_input()?);
+        }
+        Ok(files)
+    }
+
+    fn all_of_input(&mut self, what: &'static str, called: &str) -> Result<Given, Fault> {
+        self.input.hold(called)?;
+        let text = self.input.all()?;
+        given(what, self.input.name.clone(), &text)
+    }
+
     /// The number behind an option.
     pub fn number_of(&mut self, option: &'static str) -> Result<Option<Number>, Fault> {
+        let expected = match option.starts_with("offset") {
+            true => "a decimal number from 0 to 15 is expected",
+            false => "a decimal number is expected, 1 or 4 to 15",
+        };
         match self.option(option)? {
             None => Ok(None),
-            Some(word) => match number(&word) {
-                Some(value) => Ok(Some(Number { what: option, word, value })),
-                None => Err(self.usage(format!("--{option} {word}: a decimal number is expected"))),
-            },
+            Some(word) => self.number(option, &word, format!("--{option}"), expected).map(Some),
+        }
+    }
+
+    /// The numbers behind an option, one for each block, with commas between them.
+    pub fn numbers_of(&mut self, option: &'static str) -> Result<Option<Vec<Number>>, Fault> {
+        let expected = "decimal numbers from 0 to 15 are expected, with commas between them";
+        let given = match self.option(option)? {
+            None => return Ok(None),
+            Some(given) => given,
+        };
+        let words: Vec<&str> = given.split(',').filter(|_| !given.is_empty()).collect();
+        let numbers = words.iter().enumerate().map(|(block, word)| {
+            let place = if words.len() == 1 { String::new() } else { format!(", for block {}:", block + 1) };
+            self.number(option, word, format!("--{option}{place}"), expected)
+        });
+        numbers.collect::<Result<_, _>>().map(Some)
+    }
+
+    fn number(&self, what: &'static str, word: &str, place: String, expected: &str) -> Result<Number, Fault> {
+        match number(word) {
+            Some(value) => Ok(Number { what, word: word.to_string(), value }),
+            None => Err(self.usage(format!("{place} {}: {expected}", brief(word)))),
         }
     }
 
@@ -139,33 +203,30 @@ impl<'a> Words<'a> {
 
     /// The next argument, if one is left.
     pub fn argument(&mut self) -> Result<Option<OsString>, Fault> {
-        let mut options =
-            self.left.iter().map(|word| word.to_string_lossy()).filter(|word| word.starts_with('-') && *word != "-");
-        match options.next().as_deref() {
-            Some("--form") => return Err(Fault::caller(FORM_RETIRED)),
-            Some(option) => return Err(self.usage(format!("no option {option} here"))),
-            None if self.left.is_empty() => return Ok(None),
-            None => (),
+        if let Some(option) = self.left.iter().find(|word| word.as_bytes().starts_with(b"-") && *word != "-") {
+            let name = OsStr::from_bytes(option.as_bytes().split(|byte| *byte == b'=').next().unwrap_or_default());
+            return Err(match name == "--form" {
+                true => Fault::caller(FORM_RETIRED),
+                false => self.usage(format!("no option {} here", brief(name))),
+            });
+        }
+        let from = if self.left.is_empty() { &mut self.behind } else { &mut self.left };
+        if from.is_empty() {
+            return Ok(None);
         }
         self.taken += 1;
-        Ok(Some(self.left.remove(0)))
+        Ok(Some(from.remove(0)))
     }
 
-    /// The next argument, or the next word of standard input where there is none left.
+    /// The next argument, or the next word of standard input for a dash and where there is no argument left.
     pub fn word(&mut self, what: &str) -> Result<(String, String), Fault> {
-        if let Some(word) = self.argument()? {
-            let place = format!("argument {}", self.taken);
-            return Ok((text(word, &place)?, place));
-        }
-        while self.waiting.is_empty() {
-            let mut line = String::new();
-            if self.input.read_line(&mut line)? == 0 {
-                return Err(self.missing(what));
+        match self.argument()? {
+            Some(word) if word != "-" => {
+                let place = format!("argument {}", self.taken);
+                Ok((text(word, &place)?, place))
             }
-            self.waiting = line.split_whitespace().map(str::to_string).collect();
+            _ => self.input.word_for(&format!("the {what}"))?.ok_or_else(|| self.missing(what)),
         }
-        self.read += 1;
-        Ok((self.waiting.remove(0), format!("word {} of standard input", self.read)))
     }
 
     /// The next bytes, of an argument or of standard input.
@@ -175,36 +236,31 @@ impl<'a> Words<'a> {
     }
 
     /// Standard input, for a command that takes other things than words from it.
-    pub fn input(&mut self) -> &mut dyn BufRead {
-        self.input
+    pub fn input(&mut self) -> &mut Input<'a> {
+        &mut self.input
     }
 
-    /// All of standard input, where there is no argument.
-    pub fn input_alone(&mut self) -> Result<Option<String>, Fault> {
-        if !self.left.is_empty() {
-            return Ok(None);
+    /// Whether standard input is meant for all: there is no argument, or a dash alone, which is taken.
+    pub fn input_alone(&mut self) -> Result<bool, Fault> {
+        let arguments = || self.left.iter().chain(&self.behind);
+        let alone = arguments().count() <= 1 && arguments().all(|word| word == "-");
+        if alone {
+            self.argument()?;
         }
-        let mut text = String::new();
-        self.input.read_to_string(&mut text)?;
-        Ok(Some(text))
+        Ok(alone)
     }
 
-    /// The bytes of all arguments that are left, or of all words of standard input where there is none.
+    /// The bytes of all arguments that are left, or of all words of standard input where there is none, or a dash alone.
     pub fn all_bytes(&mut self, what: &'static str) -> Result<Given, Fault> {
-        if self.left.is_empty() {
-            let mut rest = String::new();
-            self.input.read_to_string(&mut rest)?;
-            let words = self.waiting.drain(..).chain(rest.split_whitespace().map(str::to_string));
-            return given(what, "standard input".to_string(), &words.collect::<String>());
+        if self.input_alone()? {
+            return self.all_of_input(what, &format!("the {what}"));
         }
-        if self.left.len() == 1 {
-            return self.bytes(what);
-        }
-        let mut text = String::new();
-        while !self.left.is_empty() {
+        let (mut text, mut place) = self.word(what)?;
+        while !self.left.is_empty() || !self.behind.is_empty() {
             text += &self.word(what)?.0;
+            place = "the last arguments".to_string();
         }
-        given(what, "the last arguments".to_string(), &text)
+        given(what, place, &text)
     }
 
     /// The same, and at least one byte.
@@ -216,35 +272,20 @@ impl<'a> Words<'a> {
         }
     }
 
-    /// All that was given must have been used.
+    /// All that was given must have been used, on standard input too if anything was taken from there.
     pub fn end(&mut self) -> Result<(), Fault> {
-        match self.left.first() {
-            Some(word) => Err(self.usage(format!("{} is one word too many", word.to_string_lossy()))),
+        let place = match self.argument()? {
+            Some(_) => Some(format!("argument {}", self.taken)),
+            None => self.input.surplus()?.map(|(_, place)| place),
+        };
+        match place {
+            Some(place) => Err(self.usage(format!("{place} is one word too many"))),
             None => Ok(()),
         }
     }
 }
 
-/// The bytes of a word.
-pub fn given(what: &'static str, place: String, word: &str) -> Result<Given, Fault> {
-    match hex::bytes(word) {
-        Ok(bytes) => Ok(Given { what, place, bytes }),
-        Err(wrong) => Err(Fault::caller(format!("{what}, {place}: {wrong}"))),
-    }
-}
-
-/// A word that is no name of a file.
-fn text(word: OsString, place: &str) -> Result<String, Fault> {
-    word.into_string().map_err(|_| Fault::caller(format!("{place}: not in UTF-8")))
-}
-
-/// A decimal number. One that no byte holds goes on as 255, which is as much out of range.
-pub fn number(word: &str) -> Option<u8> {
-    word.parse::<u64>().ok().map(|number| u8::try_from(number).unwrap_or(255))
-}
-
-/// The lines that have words, by their number, and the words. What follows a # is left out.
-pub fn with_words(text: &str) -> impl Iterator<Item = (usize, Vec<&str>)> {
-    let bare = text.lines().map(|line| line.split('#').next().unwrap_or(""));
-    (1..).zip(bare.map(|line| line.split_whitespace().collect::<Vec<_>>())).filter(|(_, words)| !words.is_empty())
+/// The words of a line. What follows a # is left out.
+pub fn words_of(line: &str) -> Vec<&str> {
+    line.split('#').next().unwrap_or("").split_whitespace().collect()
 }

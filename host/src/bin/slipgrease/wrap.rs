@@ -3,6 +3,7 @@
 use crate::cipher::{explained, Keyed};
 use crate::fault::Fault;
 use crate::hex::digits;
+use crate::shown::count;
 use crate::words::{Given, Number, Words};
 use slipgrease::{Refusal, Schedule};
 use std::io::Write;
@@ -43,7 +44,9 @@ type Call = fn(&[u8], &[u8], &mut [u8], Option<u8>) -> Result<(), Refusal>;
 
 impl Asked {
     fn read(words: &mut Words, what: &'static str) -> Result<Asked, Fault> {
-        Ok(Asked { offset: words.number_of("offset")?, keyed: Keyed::read(words)?, given: words.some_bytes(what)? })
+        let offset = words.number_of("offset")?;
+        let (keyed, given) = Keyed::read(words, |words| words.some_bytes(what))?;
+        Ok(Asked { offset, keyed, given })
     }
 
     fn made(&self, length: usize, call: Call) -> Result<Vec<u8>, Refusal> {
@@ -65,14 +68,13 @@ impl Asked {
         let Given { what, place, bytes } = &self.given;
         match refusal {
             Refusal::KeyDataLength => {
-                let (length, rest) = (bytes.len(), bytes.len().saturating_sub(8));
-                Fault::refused(refusal, &format!("{what}, {place}: {length} bytes, so {rest} of key data"))
+                let (length, rest) = (count(bytes.len(), "byte"), bytes.len().saturating_sub(8));
+                Fault::refused(refusal, &format!("{what}, {place}: {length}, so {rest} of key data"))
             }
             Refusal::Integrity => {
                 let schedule = Schedule::try_from(&self.keyed.bytes[..]).expect("the library has taken it");
                 let found = format!("the register is {:016x}, not a6a6a6a6a6a6a6a6", register(&schedule, bytes));
-                let (number, name) = (refusal.number(), refusal.name());
-                Fault::sorted(refusal, format!("{what}, {place}: integrity: {found} (reply {number}, {name})"))
+                Fault::refused_as(refusal, &format!("{what}, {place}: integrity"), &found)
             }
             _ => self.refused(refusal),
         }

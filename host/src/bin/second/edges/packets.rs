@@ -33,7 +33,7 @@ fn list() -> Vec<u8> {
         pipe[..2].copy_from_slice(&pid.to_be_bytes());
     }
     for from in [2, 242] {
-        calls::expand_key(&bytes(&KEY), &mut list[from..from + 240]);
+        let _ = calls::expand_key(&bytes(&KEY), &mut list[from..from + 240]);
     }
     list[482..498].copy_from_slice(&bytes(&[START]));
     list

@@ -26,7 +26,7 @@ impl Recorded {
     /// The record of one block, which masks 00 do not cover.
     pub fn bytes(&self, masks: &[u8; 16], offset: u8, step: u8) -> Vec<u8> {
         let (mut w, mut states) = ([0; 240], vec![2; self.length]);
-        calls::expand_key(&[5; 32], &mut w);
+        let _ = calls::expand_key(&[5; 32], &mut w);
         (self.call)(&w, &[6; 16], masks, offset, step, &mut states);
         states
     }
@@ -73,10 +73,10 @@ pub fn zero_masks() -> Vec<Edge> {
     let (key, block): ([u8; 32], [u8; 16]) = (std::array::from_fn(|i| i as u8), std::array::from_fn(|i| 0x11 * i as u8));
     let (mut w, mut sealed) = ([0; 240], [0; 16]);
     let (mut plain, mut there, mut back) = ([1; 1136], [2; 1136], [3; 1360]);
-    calls::expand_key(&key, &mut w);
-    calls::record_plain(&w, &block, &mut plain);
+    let _ = calls::expand_key(&key, &mut w);
+    let _ = calls::record_plain(&w, &block, &mut plain);
     let recorded = calls::record_masked(&w, &block, &[0; 16], 5, 1, &mut there);
-    calls::encrypt(&w, &block, &mut sealed);
+    let _ = calls::encrypt(&w, &block, &mut sealed);
     let recorded_back = calls::record_masked_decryption(&w, &sealed, &[0; 16], 5, 1, &mut back);
     let different = |record: &[u8]| {
         let mut states: Vec<Vec<u8>> = record.chunks(16).map(<[u8]>::to_vec).collect();

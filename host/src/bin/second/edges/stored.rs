@@ -37,7 +37,7 @@ pub fn refused() -> Vec<Edge> {
 pub fn converted() -> Vec<Edge> {
     let shown = |offset: u8| {
         let mut mask = [1; 16];
-        calls::convert(&[0; 16], &mut mask, offset);
+        let _ = calls::convert(&[0; 16], &mut mask, offset);
         mask
     };
     vec![

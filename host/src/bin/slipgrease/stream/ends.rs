@@ -1,17 +1,15 @@
 //! The ends of a stream: files, or the standard streams.
 
 use crate::fault::Fault;
+use crate::opened::Opened;
+use crate::shown::shown;
 use std::ffi::{OsStr, OsString};
 use std::fs::{File, OpenOptions};
 use std::io::{self, BufRead, Read, Write};
-use std::os::unix::fs::MetadataExt;
-use std::os::unix::io::AsFd;
 
 pub struct End {
-    pub name: String,
+    opened: Opened,
     file: Option<File>,
-    /// The device and the number of a regular file, which are no other's.
-    identity: Option<(u64, u64)>,
 }
 
 impl End {
@@ -19,45 +17,36 @@ impl End {
     pub fn input(named: Option<OsString>) -> Result<End, Fault> {
         // A folder can be opened too, and is told only by reading.
         let readable = |path: &OsStr| File::open(path).and_then(|mut file| file.read(&mut []).map(|_| file));
-        End::open(named, "standard input", &io::stdin(), readable)
+        End::open(named, readable, Opened::standard_input)
     }
 
     /// The file that is named, emptied, or standard output likewise. It must be none of those that are read.
     pub fn output(named: Option<OsString>, read: &[&End]) -> Result<End, Fault> {
         let unchanged = |path: &OsStr| OpenOptions::new().write(true).create(true).truncate(false).open(path);
-        let end = End::open(named, "standard output", &io::stdout(), unchanged)?;
-        if end.identity.is_some() {
-            if let Some(other) = read.iter().find(|other| other.identity == end.identity) {
-                return Err(Fault::caller(format!("{}: it is written to, and is read as {} too", end.name, other.name)));
-            }
-            if let Some(file) = &end.file {
-                file.set_len(0).map_err(|error| Fault::at(&end.name, error))?;
-            }
+        let end = End::open(named, unchanged, || Opened::stream("standard output", &io::stdout()))?;
+        end.opened.check_unread(read.iter().map(|other| &other.opened))?;
+        if let (Some(file), true) = (&end.file, end.opened.is_file()) {
+            file.set_len(0).map_err(|error| Fault::at(end.name(), error))?;
         }
         Ok(end)
     }
 
     fn open(
         named: Option<OsString>,
-        standard: &str,
-        stream: &impl AsFd,
         open: impl Fn(&OsStr) -> io::Result<File>,
+        standard: impl Fn() -> Result<Opened, Fault>,
     ) -> Result<End, Fault> {
-        let (name, file) = match named {
-            Some(path) if path != "-" => (shown(&path), open(&path).map(Some)),
-            _ => (standard.to_string(), Ok(None)),
-        };
-        let opened = file.and_then(|file| {
-            let metadata = match &file {
-                Some(file) => file.metadata(),
-                None => stream.as_fd().try_clone_to_owned().and_then(|stream| File::from(stream).metadata()),
-            }?;
-            Ok((file, if metadata.is_file() { Some((metadata.dev(), metadata.ino())) } else { None }))
-        });
-        match opened {
-            Ok((file, identity)) => Ok(End { name, file, identity }),
-            Err(error) => Err(Fault::at(name, error)),
+        match named {
+            Some(path) if path != "-" => {
+                let file = open(&path).map_err(|error| Fault::at(shown(&path), error))?;
+                Ok(End { opened: Opened::file(shown(&path), &file)?, file: Some(file) })
+            }
+            _ => Ok(End { opened: standard()?, file: None }),
         }
+    }
+
+    pub fn name(&self) -> &str {
+        &self.opened.name
     }
 
     pub fn is_standard(&self) -> bool {
@@ -77,10 +66,4 @@ impl End {
             None => Box::new(standard),
         }
     }
-}
-
-/// A name that may be any bytes, as a terminal can show it.
-fn shown(path: &OsStr) -> String {
-    let shown = |c: char| if c.is_control() { c.escape_default().to_string() } else { c.to_string() };
-    path.to_string_lossy().chars().map(shown).collect()
 }

@@ -3,7 +3,8 @@
 use super::ends::End;
 use crate::fault::Fault;
 use crate::hex;
-use crate::words::with_words;
+use crate::shown::count;
+use crate::words::words_of;
 use slipgrease::{Pipes, Schedule};
 use std::io::{BufRead, Read};
 
@@ -12,14 +13,18 @@ const LIMIT: usize = 1 << 16;
 
 /// The list of the pipes that the lines of a file have: PID, even key, odd key and starting block. The library judges the list.
 pub fn read(end: &End, standard: &mut dyn BufRead) -> Result<Pipes, Fault> {
-    let name = &end.name;
+    let name = end.name();
     let mut bytes = Vec::new();
     end.reader(standard).take(LIMIT as u64 + 1).read_to_end(&mut bytes).map_err(|error| Fault::at(name, error))?;
     if bytes.len() > LIMIT {
         return Err(Fault::caller(format!("{name}: longer than {LIMIT} bytes, and seven lines are expected")));
     }
     let (mut list, mut lines) = (Vec::new(), Vec::new());
-    for (line, words) in with_words(&String::from_utf8_lossy(&bytes)) {
+    for (line, text) in (1..).zip(String::from_utf8_lossy(&bytes).lines()) {
+        let words = words_of(text);
+        if words.is_empty() {
+            continue;
+        }
         let (pid, pipe) = pipe(&words).map_err(|wrong| Fault::caller(format!("{name}, line {line}{wrong}")))?;
         list.extend(pipe);
         lines.push((line, pid));
@@ -33,8 +38,10 @@ fn pipe(words: &[&str]) -> Result<(u16, Vec<u8>), String> {
         [pid, even, odd, start] => {
             (of("PID", pid)?, of("even key", even)?, of("odd key", odd)?, of::<16>("starting block", start)?)
         }
-        [_] => return Err(": one word, and PID, even key, odd key and starting block are expected".to_string()),
-        _ => return Err(format!(": {} words, and PID, even key, odd key and starting block are expected", words.len())),
+        _ => {
+            let count = count(words.len(), "word");
+            return Err(format!(": {count}, and PID, even key, odd key and starting block are expected"));
+        }
     };
     let [even, odd] = [even, odd].map(|key| *Schedule::expand(&key).as_bytes());
     Ok((u16::from_be_bytes(pid), [&pid[..], &even, &odd, &start].concat()))

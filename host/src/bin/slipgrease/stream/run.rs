@@ -4,6 +4,7 @@ use super::counts::{pid, Counts};
 use super::sync;
 use crate::fault::Fault;
 use crate::progress::Progress;
+use crate::shown::count;
 use slipgrease::{Packet, Refusal, Stream};
 use std::io::{ErrorKind, Read, Write};
 use std::ops::ControlFlow::{Break, Continue};
@@ -52,7 +53,7 @@ impl<'a> Run<'a> {
             progress.at(|since| {
                 let bits = ((packets - shown) * 8 * PACKET as u64) as f64;
                 shown = packets;
-                format!("{packets} packets, {:.1} Mbit/s", bits / since.as_secs_f64() / 1e6)
+                format!("{}, {:.1} Mbit/s", count(packets as usize, "packet"), bits / since.as_secs_f64() / 1e6)
             });
         }
     }

@@ -1,6 +1,7 @@
 //! The record of a decryption. Its plain states are those of FIPS 197, C.3, from the last round to the first; from label 5 on the
 //! published masks are 5c 65 6a 95 9a a3 ac c6 c9 f0 ff 00 0f 36 39 53.
 
+use super::record::differing;
 use super::{printed, BLOCK, CIPHERTEXT, KEY, PUBLISHED};
 
 /// Number, name, state and what else a row has.
@@ -54,10 +55,10 @@ fn without_an_offset_the_decryption_is_plain() {
 /// Mask(0) and Mask(1) differ in every byte, and at the end there is no mask.
 #[test]
 fn two_decryptions_stand_side_by_side() {
-    let said = printed(&format!("record --offset 0 --offset2 1 {KEY} {CIPHERTEXT} --decrypt"));
+    let said = differing(&format!("record --offset 0 --offset2 1 {KEY} {CIPHERTEXT} --decrypt"));
     let lines: Vec<&str> = said.lines().collect();
-    assert_eq!(lines.len(), 2 + 1 + 85);
+    assert_eq!(lines.len(), 3 + 1 + 85 + 1 + 4);
     assert!(lines[0].starts_with("first:  decryption, offset 0, ") && lines[1].starts_with("second: decryption, offset 1, "));
-    assert!(lines[3].ends_with("     16"), "{}", lines[3]);
-    assert!(lines[87].ends_with(&format!("{BLOCK}  {BLOCK}  {}      0", ".".repeat(32))), "{}", lines[87]);
+    assert!(lines[4].ends_with(&format!("{}      0     16  Mask(0) / Mask(1)", "-".repeat(32))), "{}", lines[4]);
+    assert!(lines[88].ends_with(&format!("{BLOCK}  {BLOCK}  {}      0      0  none", ".".repeat(32))), "{}", lines[88]);
 }

@@ -1,11 +1,12 @@
 //! The step, wherever a command takes one. From label 5 on the published masks are 5c 65 6a 95 9a a3 ac c6 c9 f0 ff 00 0f 36 39
 //! 53.
 
+use super::record::differing;
 use super::{printed, refused, typed, BLOCK, CIPHERTEXT, KEY, PUBLISHED};
 use std::fs;
 
 const TAKEN: [u8; 13] = [1, 4, 5, 6, 7, 8, 9, 10, 11, 12, 13, 14, 15];
-const REFUSED: &str = "the step is 0, 2, 3 or above 15, or 1 in a sheet of version 2 (reply 15, STEP_WRONG)";
+const REFUSED: &str = "a step is 1, or 4 to 15 (reply 15, STEP_WRONG)";
 
 #[test]
 fn the_module_makes_the_ciphertext_and_the_plaintext_with_every_step() {
@@ -25,7 +26,7 @@ fn the_module_makes_the_ciphertext_and_the_plaintext_with_every_step() {
 #[test]
 fn many_blocks_have_one_step() {
     for step in TAKEN {
-        let made = printed(&format!("blocks --offsets 030f --step {step} {KEY} {BLOCK} {BLOCK}"));
+        let made = printed(&format!("blocks --offsets 3,15 --step {step} {KEY} {BLOCK} {BLOCK}"));
         assert_eq!(made, format!("{CIPHERTEXT}\n").repeat(2));
     }
 }
@@ -47,12 +48,13 @@ fn a_record_has_the_masks_of_its_step() {
 /// Both runs begin under Mask(0); behind the first boxes they are under Mask(1) and Mask(4), which differ in all bytes.
 #[test]
 fn two_steps_stand_side_by_side() {
-    let said = printed(&format!("record --offset 0 --step2 4 {KEY} {BLOCK}"));
+    let said = differing(&format!("record --offset 0 --step2 4 {KEY} {BLOCK}"));
     let rows: Vec<&str> = said.lines().collect();
     assert!(rows[0].starts_with("first:  offset 0, step 1, ") && rows[1].starts_with("second: offset 0, step 4, "));
-    assert!(rows[3].ends_with(&format!("{}      0", ".".repeat(32))), "{}", rows[3]);
-    assert!(rows[4].ends_with(&format!("{}      0", ".".repeat(32))), "{}", rows[4]);
-    assert!(rows[5].ends_with("     16"), "{}", rows[5]);
+    assert_eq!(rows[2], "The second has another step.");
+    assert!(rows[4].ends_with(&format!("{}      0      0  Mask(0)", ".".repeat(32))), "{}", rows[4]);
+    assert!(rows[5].ends_with(&format!("{}      0      0  Mask(0)", ".".repeat(32))), "{}", rows[5]);
+    assert!(rows[6].ends_with(&format!("{}      0     16  Mask(1) / Mask(4)", "-".repeat(32))), "{}", rows[6]);
 }
 
 #[test]
@@ -77,7 +79,7 @@ fn a_step_that_is_not_taken_is_a_caller_fault() {
             format!("mask --offset 0 --step {step} --masks {PUBLISHED} {KEY} {BLOCK}"),
             format!("unmask --offset 0 --step {step} {KEY} {BLOCK}"),
             format!("unmask --offset 0 --step {step} --masks {PUBLISHED} {KEY} {BLOCK}"),
-            format!("blocks --offsets 00 --step {step} {KEY} {BLOCK}"),
+            format!("blocks --offsets 0 --step {step} {KEY} {BLOCK}"),
             format!("record --offset 0 --step {step} {KEY} {BLOCK}"),
             format!("record --decrypt --offset 0 --step {step} {KEY} {BLOCK}"),
             format!("pipe --step {step} {KEY} {BLOCK}"),
@@ -91,13 +93,14 @@ fn a_step_that_is_not_taken_is_a_caller_fault() {
         assert_eq!(second, (format!("--step2 {step}: {REFUSED}"), 1));
     }
     let offset_first = refused(&format!("mask --offset 16 --step 2 {KEY} {BLOCK}"));
-    assert_eq!(offset_first, ("--offset 16: an offset is above 15 (reply 6, OFFSET_RANGE)".to_string(), 1));
+    assert_eq!(offset_first, ("--offset 16: an offset is 0 to 15 (reply 6, OFFSET_RANGE)".to_string(), 1));
 }
 
 #[test]
 fn a_sheet_that_is_not_taken_says_why() {
     for step in [0, 1, 2, 3, 16, 255] {
-        let message = format!("sheet, argument 2: step {step}: {REFUSED}");
+        let refused_there = "a sheet of version 2 has a step from 4 to 15 (reply 15, STEP_WRONG)";
+        let message = format!("sheet, argument 2: step {step}: {refused_there}");
         assert_eq!(refused(&format!("sheet read 4d534b0002{PUBLISHED}{step:02x}")), (message, 1));
     }
     let length = "the sheet is not 21 bytes long; in version 2, not 22 (reply 11, SHEET_LENGTH)";
@@ -105,7 +108,7 @@ fn a_sheet_that_is_not_taken_says_why() {
         assert_eq!(refused(&format!("sheet read {sheet}")), (format!("sheet, argument 2: {bytes} bytes: {length}"), 2));
     }
     for step in [1, 4] {
-        let message = "masks, argument 2: 1 bytes: the mask table is not 16 bytes long (reply 5, MASKS_LENGTH)";
+        let message = "masks, argument 2: 1 byte: the mask table is not 16 bytes long (reply 5, MASKS_LENGTH)";
         assert_eq!(refused(&format!("sheet write --step {step} 00")), (message.to_string(), 1));
     }
 }

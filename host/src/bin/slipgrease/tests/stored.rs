@@ -29,16 +29,16 @@ fn lines_are_converted_in_their_order() {
 /// None of the lines is printed then, those before it neither.
 #[test]
 fn a_line_that_is_wrong_is_named() {
-    let length = "the input is not 16 bytes long; of many blocks, not 16 for each of 256 at most (reply 3, INPUT_LENGTH)";
-    let range = "an offset is above 15 (reply 6, OFFSET_RANGE)";
+    let length = "a block is 16 bytes (reply 3, INPUT_LENGTH)";
+    let range = "an offset is 0 to 15 (reply 6, OFFSET_RANGE)";
     let cases = [
         (format!("{BLOCK}00 1"), format!("stored block, line 3 of standard input: 17 bytes: {length}")),
         (format!("{BLOCK}00 16"), format!("stored block, line 3 of standard input: 17 bytes: {length}")),
         ("0g 1".to_string(), "stored block, line 3 of standard input: 'g' at digit 2 is not a hex digit".to_string()),
         (format!("{BLOCK} 16"), format!("offset, line 3 of standard input: 16: {range}")),
         (format!("{BLOCK} 256"), format!("offset, line 3 of standard input: 256: {range}")),
-        (format!("{BLOCK} 0x1"), "offset, line 3 of standard input: 0x1: a decimal number is expected".to_string()),
-        (BLOCK.to_string(), "line 3 of standard input: 1 words, and a stored block and its offset are expected".to_string()),
+        (format!("{BLOCK} 0x1"), "offset, line 3 of standard input: 0x1: a decimal number from 0 to 15 is expected".to_string()),
+        (BLOCK.to_string(), "line 3 of standard input: 1 word, and a stored block and its offset are expected".to_string()),
         (format!("{BLOCK} 1 2"), "line 3 of standard input: 3 words, and a stored block and its offset are expected".to_string()),
     ];
     for (line, message) in cases {
@@ -52,18 +52,18 @@ fn a_line_that_is_wrong_is_named() {
 #[test]
 fn arguments_that_are_wrong_are_named() {
     let cases = [
+        (format!("convert {} 0", &BLOCK[2..]), "stored block, argument 1: 15 bytes: a block is 16 bytes (reply 3, INPUT_LENGTH)"),
+        (format!("convert {BLOCK} 16"), "offset, argument 2: 16: an offset is 0 to 15 (reply 6, OFFSET_RANGE)"),
         (
-            format!("convert {} 0", &BLOCK[2..]),
-            "stored block, argument 1: 15 bytes: the input is not 16 bytes long; of many blocks, not 16 for each of 256 at most \
-             (reply 3, INPUT_LENGTH)",
+            format!("convert {BLOCK} 00000000000000016"),
+            "offset, argument 2: 0000.. (17 digits): an offset is 0 to 15 (reply 6, OFFSET_RANGE)",
         ),
-        (format!("convert {BLOCK} 16"), "offset, argument 2: 16: an offset is above 15 (reply 6, OFFSET_RANGE)"),
-        (format!("convert {BLOCK} 0f"), "offset, argument 2: 0f: a decimal number is expected"),
+        (format!("convert {BLOCK} 0f"), "offset, argument 2: 0f: a decimal number from 0 to 15 is expected"),
         (
             format!("convert {BLOCK}"),
-            "offset is missing: it is expected as an argument or on standard input; slipgrease convert --help says more",
+            "the offset is missing: it is expected as an argument or on standard input; slipgrease convert --help says more",
         ),
-        (format!("convert {BLOCK} 0 1"), "1 is one word too many; slipgrease convert --help says more"),
+        (format!("convert {BLOCK} 0 1"), "argument 3 is one word too many; slipgrease convert --help says more"),
         (format!("convert --offset 0 {BLOCK}"), "no option --offset here; slipgrease convert --help says more"),
     ];
     for (line, message) in cases {
@@ -79,7 +79,7 @@ fn who_asks_for_a_form_is_told_what_became_of_it() {
         for line in [
             format!("mask --offset 1 --form {form} {KEY} {BLOCK}"),
             format!("mask {KEY} {BLOCK} --offset 1 --masks {BLOCK} --form {form}"),
-            format!("blocks --offsets 00 --form {form} {KEY} {BLOCK}"),
+            format!("blocks --offsets 0 --form {form} {KEY} {BLOCK}"),
         ] {
             assert_eq!(refused(&line), (message.to_string(), 1), "{line}");
         }

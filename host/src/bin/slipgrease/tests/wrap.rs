@@ -82,7 +82,7 @@ fn a_broken_wrap_is_a_data_fault_and_its_register_is_told() {
 #[test]
 fn what_is_wrong_otherwise_is_a_caller_fault() {
     let length = "the key data is not 16 to 256 bytes long in a multiple of 8 (reply 16, KEY_DATA_LENGTH)";
-    let range = "an offset is above 15 (reply 6, OFFSET_RANGE)";
+    let range = "an offset is 0 to 15 (reply 6, OFFSET_RANGE)";
     let (short, long) = (&BLOCK[2..], "00".repeat(264));
     let cases = [
         (format!("wrap {KEY} {short}"), format!("key data, argument 2: 15 bytes: {length}")),
@@ -97,7 +97,7 @@ fn what_is_wrong_otherwise_is_a_caller_fault() {
             format!("wrap --offset 16 --schedule {KEY} {BLOCK}"),
             "schedule, option --schedule: 32 bytes: the schedule is not 240 bytes long (reply 2, SCHEDULE_LENGTH)".into(),
         ),
-        (format!("unwrap {KEY} a6"), format!("wrapped key, argument 2: 1 bytes, so 0 of key data: {length}")),
+        (format!("unwrap {KEY} a6"), format!("wrapped key, argument 2: 1 byte, so 0 of key data: {length}")),
         (format!("unwrap {KEY} {BLOCK}"), format!("wrapped key, argument 2: 16 bytes, so 8 of key data: {length}")),
         (
             format!("unwrap --offset 0 {KEY} {}", &WRAPS[0].1[2..]),
@@ -107,7 +107,7 @@ fn what_is_wrong_otherwise_is_a_caller_fault() {
         (format!("unwrap {KEY} 0g"), "wrapped key, argument 2: 'g' at digit 2 is not a hex digit".into()),
         (
             format!("unwrap {KEY}"),
-            "wrapped key is missing: it is expected as an argument or on standard input; slipgrease unwrap --help says more"
+            "the wrapped key is missing: it is expected as an argument or on standard input; slipgrease unwrap --help says more"
                 .into(),
         ),
         (format!("wrap --step 5 {KEY} {BLOCK}"), "no option --step here; slipgrease wrap --help says more".into()),

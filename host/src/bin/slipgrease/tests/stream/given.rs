@@ -20,7 +20,10 @@ fn words_are_asked_for() {
         (format!("descramble --even --pipes {pipes}"), "no option --even here; slipgrease descramble --help says more"),
         (format!("descramble --pipes {pipes} --pass --pass"), "--pass is given twice; slipgrease descramble --help says more"),
         ("scramble --odd".to_string(), "--pipes is missing: a file with a line for each of the seven pipes is expected"),
-        (format!("scramble --odd --pipes {pipes} a b c"), "c is one word too many; slipgrease scramble --help says more"),
+        (
+            format!("scramble --odd --pipes {pipes} a b c"),
+            "argument 3 is one word too many; slipgrease scramble --help says more",
+        ),
         ("scramble --odd --pipes -".to_string(), "standard input cannot be both the file of pipes and the stream"),
     ];
     for (line, message) in cases {
@@ -38,12 +41,13 @@ fn with_line(number: usize, line: &str) -> String {
 #[test]
 fn a_faulty_file_of_pipes_is_told_without_its_keys() {
     let folder = Folder::new("faulty");
-    let wrong = "the list is not 3,486 bytes long, or has a PID outside 0010 to 1ffe or one twice (reply 22, PIPES_WRONG)";
+    let wrong =
+        "the list is not 3,486 bytes long, or has a PID outside 0010 to 1ffe, or the same PID twice (reply 22, PIPES_WRONG)";
     let expected = "PID, even key, odd key and starting block are expected";
     let lines: Vec<String> = list().lines().map(str::to_string).collect();
     let cases = [
         (with_line(1, &format!("0100 {KEY} {KEY}")), format!(", line 1: 3 words, and {expected}")),
-        (with_line(1, KEY), format!(", line 1: one word, and {expected}")),
+        (with_line(1, KEY), format!(", line 1: 1 word, and {expected}")),
         (with_line(5, &format!("0100 {KEY} {KEY} {START} {KEY}")), format!(", line 5: 5 words, and {expected}")),
         (with_line(2, &format!("100 {KEY} {KEY} {START}")), ", line 2, PID: hex digits: 3, expected: 4".to_string()),
         (with_line(2, &format!("{KEY} {KEY} {KEY} {START}")), ", line 2, PID: hex digits: 64, expected: 4".to_string()),

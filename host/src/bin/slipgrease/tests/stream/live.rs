@@ -84,16 +84,30 @@ impl Write for Failing {
     }
 }
 
-/// A reader that has gone is no fault, and a standard error that fails changes nothing.
+/// A reader that has gone is no fault.
 #[test]
 fn a_failing_write_is_told() {
     let folder = Folder::new("failing");
     let words = ["descramble", "--pipes", &folder.file("pipes.txt", list())].map(Into::into);
     for room in [0, 188, 70_000] {
         let stream = example().repeat(200);
-        let failed = |out: &mut Failing, notes: &mut Failing| run(&words, &mut &stream[..], out, notes).unwrap_err();
-        let fault = failed(&mut Failing(room, ErrorKind::PermissionDenied), &mut Failing(0, ErrorKind::Other));
+        let failed = |out: &mut Failing, notes: &mut dyn Write| run(&words, &mut &stream[..], out, notes).unwrap_err();
+        let fault = failed(&mut Failing(room, ErrorKind::PermissionDenied), &mut io::sink());
         assert_eq!((fault.message.as_str(), fault.status), ("standard output: permission denied", 1));
         assert_eq!(failed(&mut Failing(room, ErrorKind::BrokenPipe), &mut Failing(0, ErrorKind::BrokenPipe)).status, 0);
+    }
+}
+
+/// A table that is lost is a failure to write, whatever became of the stream; one that nobody reads is not.
+#[test]
+fn a_table_that_is_lost_is_told() {
+    let folder = Folder::new("lost");
+    let words = ["descramble", "--pipes", &folder.file("pipes.txt", list())].map(Into::into);
+    let (whole, broken) = (example(), example()[..200].to_vec());
+    for (stream, status) in [(whole, 0), (broken, 2)] {
+        let ended = |kind: ErrorKind| run(&words, &mut &stream[..], &mut io::sink(), &mut Failing(100, kind)).err();
+        let lost = ended(ErrorKind::Other).unwrap();
+        assert_eq!((lost.message.as_str(), lost.status), ("standard error: other error", 1));
+        assert_eq!(ended(ErrorKind::BrokenPipe).map_or(0, |fault| fault.status), status);
     }
 }

@@ -1,0 +1,140 @@
+//! A run: what it is asked for with, and what is recorded of it.
+
+use crate::cipher::{explained, Keyed, Masking};
+use crate::fault::Fault;
+use crate::hex::digits;
+use crate::words::{Given, Number};
+use slipgrease::{Direction, Masks, Offset, Point, Refusal, Step};
+
+/// What a run is asked for with.
+pub struct Asked {
+    pub direction: Direction,
+    pub keyed: Keyed,
+    pub block: Given,
+    pub masking: Option<Masking>,
+}
+
+/// What a masked run is covered with.
+#[derive(Clone, Copy)]
+pub struct Masked {
+    pub masks: Masks,
+    pub offset: Offset,
+    pub step: Step,
+}
+
+/// A mask by where the rules have it: at a point of a run at an offset and a step. Nothing lies over the states of a plain run.
+#[derive(Clone, Copy, PartialEq)]
+pub struct Cover(pub Option<(Point, Offset, Step)>);
+
+impl Cover {
+    /// As Mask(7), with what else was done to it, or none.
+    pub fn name(self) -> String {
+        self.0.map_or("none".to_string(), |(point, offset, step)| point.mask(offset, step))
+    }
+
+    /// The same with its label counted from an offset o: Mask(o+4).
+    pub fn counted_from(self, first: Offset) -> String {
+        let further = |offset: Offset| Offset::new((16 + offset.number() - first.number()) % 16).expect("below 16");
+        let counted = self.0.map(|(point, offset, step)| (point, further(offset), step));
+        Cover(counted).name().replace("Mask(", "Mask(o+").replace("Mask(o+0)", "Mask(o)")
+    }
+}
+
+/// Sixteen bytes for each point as they were recorded, what is under their masks, and these.
+#[derive(Clone)]
+pub struct Recorded {
+    pub states: Vec<u8>,
+    pub plain: Vec<u8>,
+    pub covers: Vec<Cover>,
+}
+
+impl Recorded {
+    /// What the plain states and the recorded ones differ in.
+    pub fn masks(&self) -> Vec<u8> {
+        xor(&self.plain, &self.states)
+    }
+}
+
+pub struct Run {
+    pub direction: Direction,
+    pub schedule: Vec<u8>,
+    pub block: Vec<u8>,
+    pub masked: Option<Masked>,
+    pub recorded: Recorded,
+}
+
+impl Run {
+    pub fn new(asked: Asked) -> Result<Run, Fault> {
+        let Asked { direction, keyed, block, masking } = asked;
+        let refused = |refusal| explained(refusal, &keyed, &block, masking.as_ref());
+        let mut plain = vec![0; 16 * direction.states()];
+        let mut states = plain.clone();
+        let masked = match &masking {
+            None => None,
+            Some(Masking { masks, offset, step }) => {
+                let bytes = masks.as_ref().map_or(&Masks::PUBLISHED.as_bytes()[..], |masks| &masks.bytes);
+                let (offset, step) = (offset.value, Number::step(step));
+                let record = match direction {
+                    Direction::Encryption => slipgrease::record_masked,
+                    Direction::Decryption => slipgrease::record_masked_decryption,
+                };
+                record(&keyed.bytes, &block.bytes, bytes, offset, step, &mut states).map_err(refused)?;
+                let taken = "the library has taken it";
+                let masks = Masks::try_from(bytes).expect(taken);
+                Some(Masked { masks, offset: Offset::new(offset).expect(taken), step: Step::new(step).expect(taken) })
+            }
+        };
+        record_plain(direction, &keyed.bytes, &block.bytes, &mut plain).map_err(refused)?;
+        if masked.is_none() {
+            states = plain.clone();
+        }
+        let cover = |point| Cover(masked.map(|Masked { offset, step, .. }| (point, offset, step)));
+        let covers = direction.points().map(cover).collect();
+        Ok(Run { direction, schedule: keyed.bytes, block: block.bytes, masked, recorded: Recorded { states, plain, covers } })
+    }
+
+    /// The offset and the step, or that it is plain.
+    pub fn kind(&self) -> String {
+        match self.masked {
+            None => "plain".to_string(),
+            Some(Masked { offset, step, .. }) => format!("offset {}, step {}", offset.number(), step.number()),
+        }
+    }
+
+    /// The same with the masks and the block.
+    pub fn named(&self) -> String {
+        let way = if self.direction == Direction::Decryption { "decryption, " } else { "" };
+        let masks = match self.masked {
+            None => String::new(),
+            Some(Masked { masks: Masks::PUBLISHED, .. }) => ", the published masks".to_string(),
+            Some(Masked { masks, .. }) => format!(", masks {}", digits(masks.as_bytes())),
+        };
+        format!("{way}{}{masks}, block {}", self.kind(), digits(&self.block))
+    }
+
+    /// What of a second run is not as in this one.
+    pub fn another(&self, second: &Run) -> Vec<&'static str> {
+        let of = |run: &Run| run.masked.map(|masked| (masked.masks, masked.offset, masked.step));
+        let (ours, theirs) = (of(self), of(second));
+        let differs = [
+            ("key", self.schedule != second.schedule),
+            ("block", self.block != second.block),
+            ("offset", ours.map(|its| its.1) != theirs.map(|its| its.1)),
+            ("step", ours.zip(theirs).map_or(false, |(a, b)| a.2 != b.2)),
+            ("masks", ours.zip(theirs).map_or(false, |(a, b)| a.0 != b.0)),
+        ];
+        differs.into_iter().filter(|(_, differs)| *differs).map(|(what, _)| what).collect()
+    }
+}
+
+/// The library records no plain decryption by itself; but sixteen masks 00 cover nothing, at any offset and with any step.
+fn record_plain(direction: Direction, schedule: &[u8], block: &[u8], states: &mut [u8]) -> Result<(), Refusal> {
+    match direction {
+        Direction::Encryption => slipgrease::record_plain(schedule, block, states),
+        Direction::Decryption => slipgrease::record_masked_decryption(schedule, block, &[0; 16], 0, 1, states),
+    }
+}
+
+pub fn xor(a: &[u8], b: &[u8]) -> Vec<u8> {
+    a.iter().zip(b).map(|(x, y)| x ^ y).collect()
+}
