@@ -20,8 +20,8 @@ as an option.
 
 Arguments are seen by others (ps, the shell's history): so give a key by --key-file FILE, or as - on standard input.
 
-The status is 0 where a command is done, 1 for a caller fault, 2 for a data fault, and 3 where it is done and the answer is no; a
-refusal is told with the library's reply number.
+The status is 0 where a command is done, 1 for a caller fault or a failure to read or write, 2 for a data fault, and 3 where it is
+done and the answer is no; a refusal is told with the library's reply number.
 ";
 
 /// All commands, a line for each.

@@ -2,7 +2,7 @@
 //!
 //! It takes every offset from its caller and draws none. Its status is 0 where a command is done, 3 where it is
 //! done and the answer is no, and otherwise what the library's own sorter says of the refusal: 1 for a caller
-//! fault, 2 for a data fault.
+//! fault, 2 for a data fault. What cannot be read or written is 1 too.
 
 #![forbid(unsafe_code)]
 
