@@ -6,39 +6,61 @@
 #include "expect.h"
 #include "translated.h"
 
-// One of NIST's vectors. Offset and step go with its number, and its key's first half are the lent masks.
-static void check_block(const struct vectors *vectors, size_t number, size_t engine)
+// One of NIST's vectors by the masked calls of one block, at a record of offsets. The step goes with its number, and its key's
+// first half are the lent masks.
+static void check_masked(const struct vectors *vectors, size_t number, size_t engine, const uint8_t *schedule,
+                         const uint8_t offsets[BYTE_OFFSETS])
 {
     const struct engine *e = engines[engine];
-    const uint8_t *key = vectors->block[number].key, *masks = key;
-    const uint8_t *plain = vectors->block[number].plain, *cipher = vectors->block[number].cipher;
-    uint8_t schedule[SCHEDULE_BYTES], output[BLOCK_BYTES], states[RECORD_BYTES], states_back[DECRYPTION_RECORD_BYTES];
-    uint8_t offset = (uint8_t)(number % 16), step = steps[number % STEPS];
+    const uint8_t *masks = vectors->block[number].key, *plain = vectors->block[number].plain;
+    const uint8_t *cipher = vectors->block[number].cipher;
+    uint8_t output[BLOCK_BYTES], states[RECORD_BYTES], states_back[DECRYPTION_RECORD_BYTES], step = steps[number % STEPS];
 
     memset(output, UNTOUCHED, BLOCK_BYTES);
     memset(states, UNTOUCHED, RECORD_BYTES);
     memset(states_back, UNTOUCHED, DECRYPTION_RECORD_BYTES);
-    library.expand_key(key, KEY_BYTES, schedule, SCHEDULE_BYTES);
+    e->encrypt_published(schedule, SCHEDULE_BYTES, plain, BLOCK_BYTES, output, BLOCK_BYTES, offsets, BYTE_OFFSETS, step, 0);
+    expect(same(output, cipher, BLOCK_BYTES), engine, ENCRYPT_PUBLISHED, "vector", number + 1);
+    memset(output, UNTOUCHED, BLOCK_BYTES);
+    e->encrypt_masked(schedule, SCHEDULE_BYTES, plain, BLOCK_BYTES, output, BLOCK_BYTES, masks, MASK_BYTES, offsets, BYTE_OFFSETS,
+                      step, 0);
+    expect(same(output, cipher, BLOCK_BYTES), engine, ENCRYPT_MASKED, "vector", number + 1);
+    e->record_masked(schedule, SCHEDULE_BYTES, plain, BLOCK_BYTES, masks, MASK_BYTES, offsets, BYTE_OFFSETS, step, states,
+                     RECORD_BYTES);
+    expect(same(states + RECORD_BYTES - BLOCK_BYTES, cipher, BLOCK_BYTES), engine, RECORD_MASKED, "vector", number + 1);
+    e->decrypt_published(schedule, SCHEDULE_BYTES, cipher, BLOCK_BYTES, output, BLOCK_BYTES, offsets, BYTE_OFFSETS, step);
+    expect(same(output, plain, BLOCK_BYTES), engine, DECRYPT_PUBLISHED, "vector", number + 1);
+    memset(output, UNTOUCHED, BLOCK_BYTES);
+    e->decrypt_masked(schedule, SCHEDULE_BYTES, cipher, BLOCK_BYTES, output, BLOCK_BYTES, masks, MASK_BYTES, offsets, BYTE_OFFSETS,
+                      step);
+    expect(same(output, plain, BLOCK_BYTES), engine, DECRYPT_MASKED, "vector", number + 1);
+    e->record_masked_decryption(schedule, SCHEDULE_BYTES, cipher, BLOCK_BYTES, masks, MASK_BYTES, offsets, BYTE_OFFSETS, step,
+                                states_back, DECRYPTION_RECORD_BYTES);
+    expect(same(states_back + DECRYPTION_RECORD_BYTES - BLOCK_BYTES, plain, BLOCK_BYTES), engine, RECORD_MASKED_DECRYPTION,
+           "vector", number + 1);
+}
+
+// One of the vectors by all calls of one block: the masked ones at the record of one offset, which goes with its number, and at one
+// that is drawn.
+static void check_block(const struct vectors *vectors, size_t number, size_t engine)
+{
+    const struct engine *e = engines[engine];
+    const uint8_t *plain = vectors->block[number].plain, *cipher = vectors->block[number].cipher;
+    uint8_t schedule[SCHEDULE_BYTES], output[BLOCK_BYTES], one[BYTE_OFFSETS], drawn[BYTE_OFFSETS];
+
+    memset(output, UNTOUCHED, BLOCK_BYTES);
+    library.expand_key(vectors->block[number].key, KEY_BYTES, schedule, SCHEDULE_BYTES);
     e->encrypt(schedule, SCHEDULE_BYTES, plain, BLOCK_BYTES, output, BLOCK_BYTES);
     expect(same(output, cipher, BLOCK_BYTES), engine, ENCRYPT, "vector", number + 1);
     e->decrypt(schedule, SCHEDULE_BYTES, cipher, BLOCK_BYTES, output, BLOCK_BYTES);
     expect(same(output, plain, BLOCK_BYTES), engine, DECRYPT, "vector", number + 1);
-    e->encrypt_published(schedule, SCHEDULE_BYTES, plain, BLOCK_BYTES, output, BLOCK_BYTES, offset, step, 0);
-    expect(same(output, cipher, BLOCK_BYTES), engine, ENCRYPT_PUBLISHED, "vector", number + 1);
-    memset(output, UNTOUCHED, BLOCK_BYTES);
-    e->encrypt_masked(schedule, SCHEDULE_BYTES, plain, BLOCK_BYTES, output, BLOCK_BYTES, masks, MASK_BYTES, offset, step, 0);
-    expect(same(output, cipher, BLOCK_BYTES), engine, ENCRYPT_MASKED, "vector", number + 1);
-    e->record_masked(schedule, SCHEDULE_BYTES, plain, BLOCK_BYTES, masks, MASK_BYTES, offset, step, states, RECORD_BYTES);
-    expect(same(states + RECORD_BYTES - BLOCK_BYTES, cipher, BLOCK_BYTES), engine, RECORD_MASKED, "vector", number + 1);
-    e->decrypt_published(schedule, SCHEDULE_BYTES, cipher, BLOCK_BYTES, output, BLOCK_BYTES, offset, step);
-    expect(same(output, plain, BLOCK_BYTES), engine, DECRYPT_PUBLISHED, "vector", number + 1);
-    memset(output, UNTOUCHED, BLOCK_BYTES);
-    e->decrypt_masked(schedule, SCHEDULE_BYTES, cipher, BLOCK_BYTES, output, BLOCK_BYTES, masks, MASK_BYTES, offset, step);
-    expect(same(output, plain, BLOCK_BYTES), engine, DECRYPT_MASKED, "vector", number + 1);
-    e->record_masked_decryption(schedule, SCHEDULE_BYTES, cipher, BLOCK_BYTES, masks, MASK_BYTES, offset, step, states_back,
-                                DECRYPTION_RECORD_BYTES);
-    expect(same(states_back + DECRYPTION_RECORD_BYTES - BLOCK_BYTES, plain, BLOCK_BYTES), engine, RECORD_MASKED_DECRYPTION,
-           "vector", number + 1);
+    draw(drawn, BYTE_OFFSETS);
+    for (size_t i = 0; i < BYTE_OFFSETS; i++) {
+        one[i] = (uint8_t)((number + i) % 16);
+        drawn[i] %= 16;
+    }
+    check_masked(vectors, number, engine, schedule, one);
+    check_masked(vectors, number, engine, schedule, drawn);
 }
 
 // How many vectors, from one on, have the same key.
@@ -85,12 +107,11 @@ static size_t point_back(size_t point)
     return 70 - 5 * ((point - 2) / 6) - earlier[(point - 2) % 6];
 }
 
-// FIPS 197 A.3, and the states of C.3: under masks 00 the covered states are the plain ones.
+// FIPS 197 A.3, and the states of C.3 by the plain engine.
 static void check_appendix(const struct vectors *vectors, size_t engine)
 {
     const struct engine *e = engines[engine];
-    const uint8_t no_masks[MASK_BYTES] = {0}, *block = vectors->block[0].plain, *cipher = vectors->block[0].cipher;
-    uint8_t schedule[SCHEDULE_BYTES], plain[RECORD_BYTES], covered[RECORD_BYTES], back[DECRYPTION_RECORD_BYTES];
+    uint8_t schedule[SCHEDULE_BYTES], plain[RECORD_BYTES];
 
     memset(schedule, UNTOUCHED, SCHEDULE_BYTES);
     e->expand_key(vectors->key, KEY_BYTES, schedule, SCHEDULE_BYTES);
@@ -98,16 +119,27 @@ static void check_appendix(const struct vectors *vectors, size_t engine)
         expect(schedule[i] == vectors->schedule[i], engine, EXPAND_KEY, "byte of A.3", i);
     library.expand_key(vectors->block[0].key, KEY_BYTES, schedule, SCHEDULE_BYTES);
     memset(plain, UNTOUCHED, RECORD_BYTES);
+    e->record_plain(schedule, SCHEDULE_BYTES, vectors->block[0].plain, BLOCK_BYTES, plain, RECORD_BYTES);
+    for (size_t i = 0; i < RECORD_BYTES; i++)
+        expect(plain[i] == vectors->states[i], engine, RECORD_PLAIN, "byte of C.3's states", i);
+}
+
+// The states of C.3 by the masked engine, at a record of offsets: under masks 00 the covered states are the plain ones.
+static void check_states(const struct vectors *vectors, size_t engine, const uint8_t offsets[BYTE_OFFSETS])
+{
+    const struct engine *e = engines[engine];
+    const uint8_t no_masks[MASK_BYTES] = {0}, *block = vectors->block[0].plain, *cipher = vectors->block[0].cipher;
+    uint8_t schedule[SCHEDULE_BYTES], covered[RECORD_BYTES], back[DECRYPTION_RECORD_BYTES];
+
+    library.expand_key(vectors->block[0].key, KEY_BYTES, schedule, SCHEDULE_BYTES);
     memset(covered, UNTOUCHED, RECORD_BYTES);
     memset(back, UNTOUCHED, DECRYPTION_RECORD_BYTES);
-    e->record_plain(schedule, SCHEDULE_BYTES, block, BLOCK_BYTES, plain, RECORD_BYTES);
-    e->record_masked(schedule, SCHEDULE_BYTES, block, BLOCK_BYTES, no_masks, MASK_BYTES, 0, 1, covered, RECORD_BYTES);
-    e->record_masked_decryption(schedule, SCHEDULE_BYTES, cipher, BLOCK_BYTES, no_masks, MASK_BYTES, 0, 1, back,
+    e->record_masked(schedule, SCHEDULE_BYTES, block, BLOCK_BYTES, no_masks, MASK_BYTES, offsets, BYTE_OFFSETS, 1, covered,
+                     RECORD_BYTES);
+    e->record_masked_decryption(schedule, SCHEDULE_BYTES, cipher, BLOCK_BYTES, no_masks, MASK_BYTES, offsets, BYTE_OFFSETS, 1, back,
                                 DECRYPTION_RECORD_BYTES);
-    for (size_t i = 0; i < RECORD_BYTES; i++) {
-        expect(plain[i] == vectors->states[i], engine, RECORD_PLAIN, "byte of C.3's states", i);
+    for (size_t i = 0; i < RECORD_BYTES; i++)
         expect(covered[i] == vectors->states[i], engine, RECORD_MASKED, "byte of C.3's states", i);
-    }
     for (size_t i = 0; i < DECRYPTION_RECORD_BYTES; i++) {
         uint8_t state = vectors->states[BLOCK_BYTES * point_back(i / BLOCK_BYTES) + i % BLOCK_BYTES];
         expect(back[i] == state, engine, RECORD_MASKED_DECRYPTION, "byte of C.3's states backwards", i);
@@ -116,6 +148,7 @@ static void check_appendix(const struct vectors *vectors, size_t engine)
 
 int check_engines(const struct vectors *vectors)
 {
+    static const uint8_t zeros[BYTE_OFFSETS], rising[] = {0, 1, 2, 3, 4, 5, 6, 7, 8, 9, 10, 11, 12, 13, 14, 15};
     translated_prepare();
     for (size_t engine = 0; engine < 2; engine++) {
         for (size_t number = 0; number < BLOCKS; number++)
@@ -123,6 +156,8 @@ int check_engines(const struct vectors *vectors)
         for (size_t first = 0; first < BLOCKS;)
             first += check_many(vectors, first, engine);
         check_appendix(vectors, engine);
+        check_states(vectors, engine, zeros);
+        check_states(vectors, engine, rising);
         check_wraps(vectors, engine);
         check_packets(vectors, engine);
     }

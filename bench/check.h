@@ -5,8 +5,8 @@
 #include "engine.h"
 #include "vectors.h"
 
-// Holds the library and the C translation to the vectors, and the translation to the library on other inputs, at all offsets, with
-// all steps and where a call refuses. Prints a line for each call that is wrong; gives 1 where none is.
+// Holds the library and the C translation to the vectors, and the translation to the library on other inputs, at all offsets and at
+// records of any, with all steps and where a call refuses. Prints a line for each call that is wrong; gives 1 where none is.
 int check_engines(const struct vectors *vectors);
 
 // Holds the calls of key wrap of an engine to RFC 3394, the masked ones at all offsets, and those of packets to SP 800-38A, in

@@ -9,13 +9,24 @@ enum { CASES = 2 };
 enum { EDGES = 8 };
 static const uint8_t edges[EDGES] = {0, 1, 2, 3, 4, 15, 16, 255};
 
-// A call of both engines: lengths, offset, step and form are given, and everything that a call can write is compared, reply and
-// bytes.
+// A call of both engines: lengths, step and form are given, and everything that a call can write is compared, reply and bytes.
 struct arguments {
     size_t key, schedule, input, output, masks, states, offsets;
-    // Of many offsets this is the last; those before it are in range.
-    uint8_t offset, step, form;
+    // One offset in its place. The others are in range: those of one offset, from the first on, or drawn.
+    uint8_t offset;
+    size_t place;
+    bool one;
+    uint8_t first;
+    uint8_t step, form;
 };
+
+static void lay_offsets(uint8_t offsets[MOST_BLOCKS + 1], const struct arguments *a)
+{
+    draw(offsets, MOST_BLOCKS + 1);
+    for (size_t k = 0; k <= MOST_BLOCKS; k++)
+        offsets[k] = (uint8_t)((a->one ? a->first + k : offsets[k]) % 16);
+    offsets[a->place] = a->offset;
+}
 
 static void compare(enum call call, const struct arguments *a, size_t number)
 {
@@ -26,9 +37,7 @@ static void compare(enum call call, const struct arguments *a, size_t number)
     draw(schedule, sizeof schedule);
     draw(input, a->input);
     draw(masks, sizeof masks);
-    draw(offsets, a->offsets);
-    for (size_t k = 0; k < a->offsets; k++)
-        offsets[k] = k + 1 < a->offsets ? offsets[k] % 16 : a->offset;
+    lay_offsets(offsets, a);
     memset(written, UNTOUCHED, sizeof written);
     for (size_t i = 0; i < 2; i++) {
         const struct engine *e = engines[i];
@@ -44,7 +53,7 @@ static void compare(enum call call, const struct arguments *a, size_t number)
             reply[i] = e->decrypt(schedule, a->schedule, input, a->input, to, a->output);
             break;
         case ENCRYPT_PUBLISHED:
-            reply[i] = e->encrypt_published(schedule, a->schedule, input, a->input, to, a->output, a->offset, a->step,
+            reply[i] = e->encrypt_published(schedule, a->schedule, input, a->input, to, a->output, offsets, a->offsets, a->step,
                                             a->form);
             break;
         case ENCRYPT_BLOCKS:
@@ -52,26 +61,26 @@ static void compare(enum call call, const struct arguments *a, size_t number)
                                          a->form);
             break;
         case ENCRYPT_MASKED:
-            reply[i] = e->encrypt_masked(schedule, a->schedule, input, a->input, to, a->output, masks, a->masks, a->offset,
-                                         a->step, a->form);
+            reply[i] = e->encrypt_masked(schedule, a->schedule, input, a->input, to, a->output, masks, a->masks, offsets,
+                                         a->offsets, a->step, a->form);
             break;
         case RECORD_PLAIN:
             reply[i] = e->record_plain(schedule, a->schedule, input, a->input, to, a->states);
             break;
         case RECORD_MASKED:
-            reply[i] = e->record_masked(schedule, a->schedule, input, a->input, masks, a->masks, a->offset, a->step, to,
-                                        a->states);
+            reply[i] = e->record_masked(schedule, a->schedule, input, a->input, masks, a->masks, offsets, a->offsets, a->step,
+                                        to, a->states);
             break;
         case DECRYPT_PUBLISHED:
-            reply[i] = e->decrypt_published(schedule, a->schedule, input, a->input, to, a->output, a->offset, a->step);
+            reply[i] = e->decrypt_published(schedule, a->schedule, input, a->input, to, a->output, offsets, a->offsets, a->step);
             break;
         case DECRYPT_MASKED:
-            reply[i] = e->decrypt_masked(schedule, a->schedule, input, a->input, to, a->output, masks, a->masks, a->offset,
-                                         a->step);
+            reply[i] = e->decrypt_masked(schedule, a->schedule, input, a->input, to, a->output, masks, a->masks, offsets,
+                                         a->offsets, a->step);
             break;
         default:
-            reply[i] = e->record_masked_decryption(schedule, a->schedule, input, a->input, masks, a->masks, a->offset, a->step,
-                                                   to, a->states);
+            reply[i] = e->record_masked_decryption(schedule, a->schedule, input, a->input, masks, a->masks, offsets, a->offsets,
+                                                   a->step, to, a->states);
         }
     }
     expect(reply[0] == reply[1] && same(written[0], written[1], sizeof written[0]), 1, call, "comparison", number);
@@ -80,34 +89,49 @@ static void compare(enum call call, const struct arguments *a, size_t number)
 // What a call takes.
 static struct arguments taken_by(enum call call)
 {
-    size_t states = call == RECORD_MASKED_DECRYPTION ? DECRYPTION_RECORD_BYTES : RECORD_BYTES;
-    return (struct arguments){KEY_BYTES, SCHEDULE_BYTES, BLOCK_BYTES, BLOCK_BYTES, MASK_BYTES, states, 1, 0, 1, 0};
+    return (struct arguments){.key = KEY_BYTES, .schedule = SCHEDULE_BYTES, .input = BLOCK_BYTES, .output = BLOCK_BYTES,
+                              .masks = MASK_BYTES, .offsets = call == ENCRYPT_BLOCKS ? 1 : BYTE_OFFSETS, .step = 1,
+                              .states = call == RECORD_MASKED_DECRYPTION ? DECRYPTION_RECORD_BYTES : RECORD_BYTES};
 }
 
+// The record of each offset, the same with another offset in each place, and a drawn one.
 static void compare_taken(enum call call)
 {
     struct arguments a = taken_by(call);
     size_t number = 0;
     for (size_t i = 0; i < CASES * STEPS; i++) {
         a.step = steps[i % STEPS];
-        for (a.offset = 0; a.offset < 16; a.offset++)
+        for (uint8_t n = 0; n < 16; n++) {
+            a.one = true;
+            a.first = a.offset = n;
+            a.place = 0;
             compare(call, &a, ++number);
+            a.place = number % a.offsets;
+            a.offset = (uint8_t)((n + a.place + 1 + i % 15) % 16);
+            compare(call, &a, ++number);
+            a.one = false;
+            compare(call, &a, ++number);
+        }
     }
 }
 
-// Each of the arguments too small, right or too great, all together, with each of the steps at the edges.
+// Each of the arguments too small, right or too great, all together, with each of the steps at the edges; the offset that is too
+// great is in each place in turn.
 static void compare_refused(enum call call)
 {
     const struct arguments taken = taken_by(call);
     struct arguments a = taken;
-    for (size_t choice = 0; choice < 3 * 3 * 3 * 3 * 3 * 3 * 2 * 2 * EDGES; choice++) {
+    for (size_t choice = 0; choice < 3 * 3 * 3 * 3 * 3 * 3 * 3 * 2 * 2 * EDGES; choice++) {
         size_t rest = choice;
+        a.one = choice % 2 != 0;
+        a.place = choice % taken.offsets;
         a.key = taken.key - 1 + rest % 3;
         a.schedule = taken.schedule - 1 + (rest /= 3) % 3;
         a.input = taken.input - 1 + (rest /= 3) % 3;
         a.output = taken.output - 1 + (rest /= 3) % 3;
         a.masks = taken.masks - 1 + (rest /= 3) % 3;
         a.states = taken.states - 1 + (rest /= 3) % 3;
+        a.offsets = taken.offsets - 1 + (rest /= 3) % 3;
         a.offset = (uint8_t)(15 + (rest /= 3) % 2);
         a.form = (uint8_t)((rest /= 2) % 2);
         a.step = edges[rest / 2];
@@ -121,14 +145,15 @@ static void compare_many_taken(void)
     struct arguments a = taken_by(ENCRYPT_BLOCKS);
     for (a.offsets = 0; a.offsets <= MOST_BLOCKS; a.offsets++) {
         a.input = a.output = BLOCK_BYTES * a.offsets;
+        a.place = a.offsets > 0 ? a.offsets - 1 : 0;
         a.offset = (uint8_t)(a.offsets % 16);
         a.step = steps[a.offsets % STEPS];
         compare(ENCRYPT_BLOCKS, &a, a.offsets);
     }
 }
 
-// Lengths about no block, one block and the most, each with each, an offset and a form that are right or too great, and steps at
-// the edges.
+// Lengths about no block, one block and the most, each with each, a last offset and a form that are right or too great, and steps
+// at the edges.
 static void compare_many_refused(void)
 {
     static const size_t lengths[] = {0, 15, 16, 17, 4095, 4096, 4097, 4112}, counts[] = {0, 1, 2, 255, 256, 257};
@@ -139,6 +164,7 @@ static void compare_many_refused(void)
         a.input = lengths[rest % 8];
         a.output = lengths[(rest /= 8) % 8];
         a.offsets = counts[(rest /= 8) % 6];
+        a.place = a.offsets > 0 ? a.offsets - 1 : 0;
         a.schedule = taken.schedule - 1 + (rest /= 6) % 3;
         a.offset = (uint8_t)(15 + (rest /= 3) % 2);
         a.form = (uint8_t)((rest /= 2) % 2);

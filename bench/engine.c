@@ -25,6 +25,12 @@ const char *const call_names[MEASURED] = {
     "descramble",
     "encrypt_published, step 5",
     "decrypt_published, step 5",
+    "encrypt_published, another record",
+    "encrypt_masked, another record",
+    "record_masked, another record",
+    "decrypt_published, another record",
+    "decrypt_masked, another record",
+    "record_masked_decryption, another record",
     "scramble, unlisted",
 };
 

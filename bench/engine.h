@@ -7,7 +7,7 @@
 #include <stddef.h>
 #include <stdint.h>
 
-enum { KEY_BYTES = 32, SCHEDULE_BYTES = 240, BLOCK_BYTES = 16, MASK_BYTES = 16, MOST_BLOCKS = 256 };
+enum { KEY_BYTES = 32, SCHEDULE_BYTES = 240, BLOCK_BYTES = 16, MASK_BYTES = 16, BYTE_OFFSETS = 16, MOST_BLOCKS = 256 };
 enum { RECORD_BYTES = 1136, DECRYPTION_RECORD_BYTES = 1360 };
 enum { LEAST_KEY_DATA = 16, MOST_KEY_DATA = 256, WRAP_EXTRA = 8 };
 enum { PACKET_BYTES = 188, HEADER_BYTES = 4, PIPES = 7, PIPE_BYTES = 498, PIPES_BYTES = PIPES * PIPE_BYTES };
@@ -15,8 +15,9 @@ enum { PACKET_BYTES = 188, HEADER_BYTES = 4, PIPES = 7, PIPE_BYTES = 498, PIPES_
 // Where the parts of a pipe begin behind its PID.
 enum { EVEN_AT = 2, ODD_AT = EVEN_AT + SCHEDULE_BYTES, START_AT = ODD_AT + SCHEDULE_BYTES };
 
-// After the calls come three of them once more: two with another step than 1, which makes them work out their boxes, and one on a
-// packet whose PID is not listed.
+// After the calls come some of them once more: two with another step than 1, which makes them work out their boxes, the masked
+// ones of one block at a record that is not that of one offset, which makes them work out its constants, and one on a packet
+// whose PID is not listed.
 enum call {
     EXPAND_KEY,
     ENCRYPT,
@@ -38,6 +39,12 @@ enum call {
     CALLS,
     ENCRYPT_PUBLISHED_STEP_5 = CALLS,
     DECRYPT_PUBLISHED_STEP_5,
+    ENCRYPT_PUBLISHED_ANOTHER,
+    ENCRYPT_MASKED_ANOTHER,
+    RECORD_MASKED_ANOTHER,
+    DECRYPT_PUBLISHED_ANOTHER,
+    DECRYPT_MASKED_ANOTHER,
+    RECORD_MASKED_DECRYPTION_ANOTHER,
     SCRAMBLE_UNLISTED,
     MEASURED,
 };
@@ -52,26 +59,29 @@ struct engine {
     uint8_t (*decrypt)(const uint8_t *schedule, size_t schedule_length, const uint8_t *input, size_t input_length,
                        uint8_t *output, size_t output_length);
     uint8_t (*encrypt_published)(const uint8_t *schedule, size_t schedule_length, const uint8_t *input, size_t input_length,
-                                 uint8_t *output, size_t output_length, uint8_t offset, uint8_t step, uint8_t form);
+                                 uint8_t *output, size_t output_length, const uint8_t *offsets, size_t offsets_length,
+                                 uint8_t step, uint8_t form);
     uint8_t (*encrypt_blocks)(const uint8_t *schedule, size_t schedule_length, const uint8_t *input, size_t input_length,
                               uint8_t *output, size_t output_length, const uint8_t *offsets, size_t offsets_length,
                               uint8_t step, uint8_t form);
     uint8_t (*encrypt_masked)(const uint8_t *schedule, size_t schedule_length, const uint8_t *input, size_t input_length,
-                              uint8_t *output, size_t output_length, const uint8_t *masks, size_t masks_length, uint8_t offset,
-                              uint8_t step, uint8_t form);
+                              uint8_t *output, size_t output_length, const uint8_t *masks, size_t masks_length,
+                              const uint8_t *offsets, size_t offsets_length, uint8_t step, uint8_t form);
     uint8_t (*record_plain)(const uint8_t *schedule, size_t schedule_length, const uint8_t *input, size_t input_length,
                             uint8_t *states, size_t states_length);
     uint8_t (*record_masked)(const uint8_t *schedule, size_t schedule_length, const uint8_t *input, size_t input_length,
-                             const uint8_t *masks, size_t masks_length, uint8_t offset, uint8_t step, uint8_t *states,
-                             size_t states_length);
+                             const uint8_t *masks, size_t masks_length, const uint8_t *offsets, size_t offsets_length,
+                             uint8_t step, uint8_t *states, size_t states_length);
     uint8_t (*decrypt_published)(const uint8_t *schedule, size_t schedule_length, const uint8_t *input, size_t input_length,
-                                 uint8_t *output, size_t output_length, uint8_t offset, uint8_t step);
+                                 uint8_t *output, size_t output_length, const uint8_t *offsets, size_t offsets_length,
+                                 uint8_t step);
     uint8_t (*decrypt_masked)(const uint8_t *schedule, size_t schedule_length, const uint8_t *input, size_t input_length,
-                              uint8_t *output, size_t output_length, const uint8_t *masks, size_t masks_length, uint8_t offset,
-                              uint8_t step);
+                              uint8_t *output, size_t output_length, const uint8_t *masks, size_t masks_length,
+                              const uint8_t *offsets, size_t offsets_length, uint8_t step);
     uint8_t (*record_masked_decryption)(const uint8_t *schedule, size_t schedule_length, const uint8_t *input,
-                                        size_t input_length, const uint8_t *masks, size_t masks_length, uint8_t offset,
-                                        uint8_t step, uint8_t *states, size_t states_length);
+                                        size_t input_length, const uint8_t *masks, size_t masks_length,
+                                        const uint8_t *offsets, size_t offsets_length, uint8_t step, uint8_t *states,
+                                        size_t states_length);
     uint8_t (*wrap)(const uint8_t *schedule, size_t schedule_length, const uint8_t *key_data, size_t key_data_length,
                     uint8_t *wrapped, size_t wrapped_length);
     uint8_t (*unwrap)(const uint8_t *schedule, size_t schedule_length, const uint8_t *wrapped, size_t wrapped_length,

@@ -25,8 +25,8 @@ int faults(void);
 // Numbers for inputs, the same in every run.
 void draw(uint8_t *bytes, size_t length);
 
-// Holds the translation to the library on other inputs than the vectors, at all offsets, with all steps and where a call refuses:
-// the calls of blocks, those of key wrap, and those of packets.
+// Holds the translation to the library on other inputs than the vectors, at all offsets and at records of any, with all steps and
+// where a call refuses: the calls of blocks, those of key wrap, and those of packets.
 void compare_engines(void);
 void compare_wraps(void);
 void compare_packets(void);

@@ -19,12 +19,19 @@ function target(text, bound, instructions, others,   verdict) {
     printf "%-60s at most %6s  %6s  %s\n", text, others == 1 ? grouped(bound) : bound,
         others == 1 ? grouped(instructions) : ratio(instructions, others), verdict
 }
+# What a masked call takes at most at the record of one offset, and how much more at another.
+function records(n, most,   at_another) {
+    at_another = n ", another record"
+    target(n ", instructions", most, count[n, ours], 1)
+    target(at_another ", instructions more", 3500,
+        count[n, ours] == "" || count[at_another, ours] == "" ? "" : count[at_another, ours] - count[n, ours], 1)
+}
 function heads(one, other) {
-    printf "%-30s %19s %31s\n", "", "nanoseconds", "instructions"
-    printf "%-30s %8s %8s %6s %7s %9s %9s %6s\n", "call", one, other, "ratio", "spread", one, other, "ratio"
+    printf "%-40s %19s %31s\n", "", "nanoseconds", "instructions"
+    printf "%-40s %8s %8s %6s %7s %9s %9s %6s\n", "call", one, other, "ratio", "spread", one, other, "ratio"
 }
 function row(n, one, other) {
-    printf "%-30s %8s %8s %6s %7s %9s %9s %6s\n", n, nanoseconds(time[n, one]), nanoseconds(time[n, other]),
+    printf "%-40s %8s %8s %6s %7s %9s %9s %6s\n", n, nanoseconds(time[n, one]), nanoseconds(time[n, other]),
         ratio(time[n, one], time[n, other]), percent(greater(spread[n, one], spread[n, other])),
         grouped(count[n, one]), grouped(count[n, other]), ratio(count[n, one], count[n, other])
 }
@@ -69,6 +76,13 @@ END {
     target("unwrap" stepwise ", instructions", 3150, count["unwrap" stepwise, ours], 1)
     target("wrap_masked" stepwise ", beside " published, "1.05", count["wrap_masked" stepwise, ours], count[published, ours])
     target("unwrap_masked" stepwise ", beside " back, "1.05", count["unwrap_masked" stepwise, ours], count[back, ours])
+    records(published, 4150)
+    records("encrypt_masked", 8677)
+    records("record_masked", 13546)
+    records(back, 5781)
+    records("decrypt_masked", 10966)
+    records("record_masked_decryption", 17791)
+    target(many ", instructions", 3350, count[many, ours], 1)
     target("scramble, eleven blocks, instructions", 25500, count["scramble", ours], 1)
     target("descramble, eleven blocks, instructions", 35000, count["descramble", ours], 1)
     target("scramble, unlisted, instructions", 1200, count["scramble, unlisted", ours], 1)

@@ -27,6 +27,7 @@ enum reply {
     FIELD_WRONG = 21,
     PIPES_WRONG = 22,
     BITS_WRONG = 23,
+    OFFSET_PER_BYTE = 24,
 };
 
 uint8_t translated_expand_key(const uint8_t *key, size_t key_length, uint8_t *schedule, size_t schedule_length);
@@ -45,7 +46,8 @@ uint8_t translated_record_plain(const uint8_t *schedule, size_t schedule_length,
 void translated_prepare(void);
 
 uint8_t translated_encrypt_published(const uint8_t *schedule, size_t schedule_length, const uint8_t *input, size_t input_length,
-                                     uint8_t *output, size_t output_length, uint8_t offset, uint8_t step, uint8_t form);
+                                     uint8_t *output, size_t output_length, const uint8_t *offsets, size_t offsets_length,
+                                     uint8_t step, uint8_t form);
 
 uint8_t translated_encrypt_blocks(const uint8_t *schedule, size_t schedule_length, const uint8_t *input, size_t input_length,
                                   uint8_t *output, size_t output_length, const uint8_t *offsets, size_t offsets_length,
@@ -53,22 +55,31 @@ uint8_t translated_encrypt_blocks(const uint8_t *schedule, size_t schedule_lengt
 
 uint8_t translated_encrypt_masked(const uint8_t *schedule, size_t schedule_length, const uint8_t *input, size_t input_length,
                                   uint8_t *output, size_t output_length, const uint8_t *masks, size_t masks_length,
-                                  uint8_t offset, uint8_t step, uint8_t form);
+                                  const uint8_t *offsets, size_t offsets_length, uint8_t step, uint8_t form);
 
 uint8_t translated_record_masked(const uint8_t *schedule, size_t schedule_length, const uint8_t *input, size_t input_length,
-                                 const uint8_t *masks, size_t masks_length, uint8_t offset, uint8_t step, uint8_t *states,
-                                 size_t states_length);
+                                 const uint8_t *masks, size_t masks_length, const uint8_t *offsets, size_t offsets_length,
+                                 uint8_t step, uint8_t *states, size_t states_length);
 
 uint8_t translated_decrypt_published(const uint8_t *schedule, size_t schedule_length, const uint8_t *input, size_t input_length,
-                                     uint8_t *output, size_t output_length, uint8_t offset, uint8_t step);
+                                     uint8_t *output, size_t output_length, const uint8_t *offsets, size_t offsets_length,
+                                     uint8_t step);
 
 uint8_t translated_decrypt_masked(const uint8_t *schedule, size_t schedule_length, const uint8_t *input, size_t input_length,
                                   uint8_t *output, size_t output_length, const uint8_t *masks, size_t masks_length,
-                                  uint8_t offset, uint8_t step);
+                                  const uint8_t *offsets, size_t offsets_length, uint8_t step);
 
 uint8_t translated_record_masked_decryption(const uint8_t *schedule, size_t schedule_length, const uint8_t *input,
-                                            size_t input_length, const uint8_t *masks, size_t masks_length, uint8_t offset,
-                                            uint8_t step, uint8_t *states, size_t states_length);
+                                            size_t input_length, const uint8_t *masks, size_t masks_length,
+                                            const uint8_t *offsets, size_t offsets_length, uint8_t step, uint8_t *states,
+                                            size_t states_length);
+
+// One block with the published masks, step 1 and one offset, for key wrap.
+uint8_t translated_encrypt_one(const uint8_t *schedule, size_t schedule_length, const uint8_t *input, size_t input_length,
+                               uint8_t *output, size_t output_length, uint8_t offset);
+
+uint8_t translated_decrypt_one(const uint8_t *schedule, size_t schedule_length, const uint8_t *input, size_t input_length,
+                               uint8_t *output, size_t output_length, uint8_t offset);
 
 uint8_t translated_wrap(const uint8_t *schedule, size_t schedule_length, const uint8_t *key_data, size_t key_data_length,
                         uint8_t *wrapped, size_t wrapped_length);

@@ -13,7 +13,7 @@ struct block_engine {
 static inline void sealed(struct block_engine engine, const uint8_t *schedule, const uint8_t block[BLOCK], uint8_t output[BLOCK])
 {
     if (engine.masked)
-        translated_encrypt_published(schedule, SCHEDULE, block, BLOCK, output, BLOCK, engine.offset, 1, 0);
+        translated_encrypt_one(schedule, SCHEDULE, block, BLOCK, output, BLOCK, engine.offset);
     else
         translated_encrypt(schedule, SCHEDULE, block, BLOCK, output, BLOCK);
 }
@@ -21,7 +21,7 @@ static inline void sealed(struct block_engine engine, const uint8_t *schedule, c
 static inline void opened(struct block_engine engine, const uint8_t *schedule, const uint8_t block[BLOCK], uint8_t output[BLOCK])
 {
     if (engine.masked)
-        translated_decrypt_published(schedule, SCHEDULE, block, BLOCK, output, BLOCK, engine.offset, 1);
+        translated_decrypt_one(schedule, SCHEDULE, block, BLOCK, output, BLOCK, engine.offset);
     else
         translated_decrypt(schedule, SCHEDULE, block, BLOCK, output, BLOCK);
 }

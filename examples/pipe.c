@@ -1,7 +1,7 @@
 /*
- * A pipe's key is one AES-256 block, made twice: at the rack by the plain engine, and in the module by the masked one, at an
- * offset from 0 to 15, with the step of the module's series. Here both make it from the key and the block of FIPS 197, C.3, and
- * must come to the ciphertext there. At session change the keys of all pipes are made in one call.
+ * A pipe's key is one AES-256 block, made twice: at the rack by the plain engine, and in the module by the masked one, with an
+ * offset from 0 to 15 for each byte and the step of the module's series. Here both make it from the key and the block of FIPS
+ * 197, C.3, and must come to the ciphertext there. At session change the keys of all pipes are made in one call.
  *
  *     cc pipe.c $(pkg-config --cflags --libs slipgrease) -o pipe && ./pipe
  */
@@ -23,6 +23,10 @@ static const uint8_t stored[SLIPGREASE_BLOCK_BYTES] = {
 
 /* The steps of two series of modules, so that they share no sequence of masks. */
 enum { STEP = 1, OTHER_STEP = 5 };
+
+/* An offset for each byte of a block. In the order of the boxes, bytes 0, 2 .. 14 and then 1, 3 .. 15, none is a step above the one
+   before it, with either step: so no box takes the mask that the one before it has given. */
+static const uint8_t each_byte[SLIPGREASE_BYTE_OFFSETS] = {13, 7, 1, 1, 15, 9, 2, 2, 4, 12, 11, 4, 3, 3, 14, 5};
 
 static void print_block(const char *name, const uint8_t *bytes)
 {
@@ -67,6 +71,14 @@ static int same(const uint8_t *a, const uint8_t *b)
     return memcmp(a, b, SLIPGREASE_BLOCK_BYTES) == 0;
 }
 
+/* In the module. The offsets are those of one offset, as slipgrease_one_offset makes them, or any others. */
+static uint8_t in_the_module(const uint8_t *schedule, const uint8_t *offsets, uint8_t step, uint8_t *key)
+{
+    return slipgrease_encrypt_published(
+        schedule, SLIPGREASE_SCHEDULE_BYTES, block, sizeof block, key, SLIPGREASE_BLOCK_BYTES, offsets, SLIPGREASE_BYTE_OFFSETS,
+        step, SLIPGREASE_FORM_STANDARD);
+}
+
 /* The module makes the keys of seven pipes in one call, each at an offset of its own. A block is a pipe's number and zeros. */
 static void session_change(const uint8_t *schedule)
 {
@@ -91,7 +103,7 @@ static void session_change(const uint8_t *schedule)
 int main(void)
 {
     uint8_t key[SLIPGREASE_KEY_BYTES], schedule[SLIPGREASE_SCHEDULE_BYTES], rack[SLIPGREASE_BLOCK_BYTES];
-    uint8_t reply, offset;
+    uint8_t offsets[SLIPGREASE_BYTE_OFFSETS], reply, offset;
 
     /* The key is expanded once; its schedule serves every block. */
     for (uint8_t i = 0; i < sizeof key; i++)
@@ -109,26 +121,30 @@ int main(void)
     for (offset = 0; offset < 16; offset++) {
         uint8_t module[SLIPGREASE_BLOCK_BYTES] = {0};
         char name[32];
-        reply = slipgrease_encrypt_published(
-            schedule, sizeof schedule, block, sizeof block, module, sizeof module, offset, STEP, SLIPGREASE_FORM_STANDARD);
-        must_be_done(reply, "encrypt_published");
+        slipgrease_one_offset(offsets, offset);
+        must_be_done(in_the_module(schedule, offsets, STEP, module), "encrypt_published");
         must(same(module, rack), "the module makes the key of the rack");
         snprintf(name, sizeof name, "module, offset %d", offset);
         print_block(name, module);
     }
 
+    /* And with an offset of its own for each byte. */
+    uint8_t scattered[SLIPGREASE_BLOCK_BYTES] = {0};
+    must_be_done(in_the_module(schedule, each_byte, STEP, scattered), "encrypt_published, each byte");
+    must(same(scattered, rack), "the module makes the key of the rack with an offset for each byte");
+    print_block("module, each byte", scattered);
+
     /* In a module of the other series: other masks from the first boxes on, and the same key. */
     uint8_t other[SLIPGREASE_BLOCK_BYTES] = {0};
-    reply = slipgrease_encrypt_published(
-        schedule, sizeof schedule, block, sizeof block, other, sizeof other, 3, OTHER_STEP, SLIPGREASE_FORM_STANDARD);
-    must_be_done(reply, "encrypt_published, step 5");
+    slipgrease_one_offset(offsets, 3);
+    must_be_done(in_the_module(schedule, offsets, OTHER_STEP, other), "encrypt_published, step 5");
     must(same(other, rack), "a module of the other series makes the key of the rack");
     print_block("module, step 5", other);
 
     /* There is no offset 16. The call is refused with a number of its own, and its buffer is as it was. */
     uint8_t refused[SLIPGREASE_BLOCK_BYTES] = {0}, zeros[SLIPGREASE_BLOCK_BYTES] = {0};
-    reply = slipgrease_encrypt_published(
-        schedule, sizeof schedule, block, sizeof block, refused, sizeof refused, 16, STEP, SLIPGREASE_FORM_STANDARD);
+    slipgrease_one_offset(offsets, 16);
+    reply = in_the_module(schedule, offsets, STEP, refused);
     must(reply == SLIPGREASE_REPLY_OFFSET_RANGE, "offset 16 is refused with its own number");
     must(slipgrease_sort_reply(reply) == SLIPGREASE_CALLER_FAULT, "a wrong offset is a caller fault");
     must(same(refused, zeros), "a refused call has written nothing");

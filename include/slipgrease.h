@@ -105,12 +105,14 @@ extern "C" {
 #define SLIPGREASE_REPLY_FIELD_WRONG 21     /* the adaptation code is 00, or the length of the field does not fit the code */
 #define SLIPGREASE_REPLY_PIPES_WRONG 22     /* the list is not 3,486 bytes, or has a PID outside 0010 to 1ffe, or the same PID twice */
 #define SLIPGREASE_REPLY_BITS_WRONG 23      /* the scrambling bits do not allow what is to be done */
+#define SLIPGREASE_REPLY_OFFSET_PER_BYTE 24 /* there are not 16 offsets, one for each byte of the block */
 
 /* The lengths that the calls take. */
 #define SLIPGREASE_KEY_BYTES 32
 #define SLIPGREASE_SCHEDULE_BYTES 240
 #define SLIPGREASE_BLOCK_BYTES 16
 #define SLIPGREASE_MASKS_BYTES 16
+#define SLIPGREASE_BYTE_OFFSETS 16
 #define SLIPGREASE_RECORD_BYTES 1136
 #define SLIPGREASE_DECRYPTION_RECORD_BYTES 1360
 #define SLIPGREASE_SHEET_1_BYTES 21
@@ -199,7 +201,7 @@ uint8_t slipgrease_decrypt(
  *     69                       after round key 14                  ShiftRows(Mask(o+14d))
  *     70                       the same: what encrypt writes       nothing
  *
- * The last column is that of slipgrease_record_masked, at offset o with step d. No separate output block is written.
+ * The last column is that of slipgrease_record_masked, at the offsets o with step d. No separate output block is written.
  * A record gives the key away: state 0 xor state 1 is round key 0, and state 5 xor state 6 is round key 1; these two are the key.
  * Reads schedule, 240 bytes, and input, 16 bytes. Writes record_out, 1,136 bytes.
  * Refusals: 2 SCHEDULE_LENGTH, 3 INPUT_LENGTH, 8 RECORD_LENGTH.
@@ -213,31 +215,44 @@ uint8_t slipgrease_record_plain(
 /* ---- The module's engine ---- */
 
 /*
- * A mask table is sixteen bytes, M(0) to M(15). Mask(o) is the sixteen bytes with M(o+i) at byte i, all labels modulo 16; it
- * lies over the state when a run at offset o begins. An offset is 0 to 15. The published masks are SLIPGREASE_PUBLISHED_MASKS.
- * From round to round the labels advance by a step d: in round r, box j = o+i+dr takes byte i under M(j) and gives it under
- * M(j+d). A step is 1, or 4 to 15. With step 0 a box would keep the mask. The boxes are called at the bytes 0, 2 .. 14 and then
- * 1, 3 .. 15, and none should take the mask that the one before it has given: with step 2 that would happen at fourteen of the
- * fifteen pairs of neighbours, and with step 3 at one, from byte 14 to byte 1.
- * A run ends with the ciphertext of slipgrease_encrypt, at every offset, with every step and any masks. That is the standard form,
+ * A mask table is sixteen bytes, M(0) to M(15); labels are counted modulo 16. A record of offsets has an offset for each byte of a
+ * block, o(0) to o(15), each 0 to 15: it says which mask lies over that byte when a run begins. Mask(o+k) is the sixteen bytes with
+ * M(o(i)+k) at byte i. The published masks are SLIPGREASE_PUBLISHED_MASKS.
+ * One offset stands for a record too: n, n+1 .. n+15, modulo 16. slipgrease_one_offset makes it; slipgrease_encrypt_blocks,
+ * slipgrease_convert and key wrap take the one offset itself.
+ * From round to round the labels advance by a step d: in round r, box j = o(i)+dr takes byte i under M(j) and gives it under M(j+d).
+ * A step is 1, or 4 to 15. With step 0 a box would keep the mask. The boxes are called at the bytes 0, 2 .. 14 and then 1, 3 .. 15,
+ * and none should take the mask that the one before it has given: at the record of one offset, with step 2 that would happen at
+ * fourteen of the fifteen pairs of neighbours, and with step 3 at one, from byte 14 to byte 1. At other records it can happen with any
+ * step; the caller who chooses them sees to that.
+ * A run ends with the ciphertext of slipgrease_encrypt, at every record, with every step and any masks. That is the standard form,
  * SLIPGREASE_FORM_STANDARD, and no other is accepted: form 1, in which early modules left Mask(o+14d) on the block, has been
  * retired. slipgrease_convert is for blocks that they stored.
  * A masked decryption is a run with the inverse boxes, which take and give the same masks in the same order. It ends with the
- * plaintext of slipgrease_decrypt, again at every offset, with every step and any masks, so none of these need be the ones with
+ * plaintext of slipgrease_decrypt, again at every record, with every step and any masks, so none of these need be the ones with
  * which the block was encrypted. It has no form.
  */
 
+/* Writes the record of one offset n to sixteen bytes: n, n+1 .. n+15, modulo 16. Of an n above 15, bytes that the calls refuse. */
+static inline void slipgrease_one_offset(uint8_t record[SLIPGREASE_BYTE_OFFSETS], uint8_t n)
+{
+    uint8_t i;
+    for (i = 0; i < SLIPGREASE_BYTE_OFFSETS; i++)
+        record[i] = n > 15 ? n : (uint8_t)((n + i) % 16);
+}
+
 /*
  * Encrypts one block under the published masks, with step 1 by stored boxes; those of another step are worked out first.
- * Reads schedule, 240 bytes, and input, 16 bytes. Writes output_out, 16 bytes.
- * Refusals: 2 SCHEDULE_LENGTH, 3 INPUT_LENGTH, 4 OUTPUT_LENGTH, 6 OFFSET_RANGE, 15 STEP_WRONG, 7 FORM_UNKNOWN.
- * Stack: 8,984 bytes, and 4,720 with step 1.
+ * Reads schedule, 240 bytes, input, 16 bytes, and offsets, 16 bytes. Writes output_out, 16 bytes.
+ * Refusals: 2 SCHEDULE_LENGTH, 3 INPUT_LENGTH, 4 OUTPUT_LENGTH, 24 OFFSET_PER_BYTE, 6 OFFSET_RANGE, 15 STEP_WRONG, 7 FORM_UNKNOWN.
+ * Stack: 9,288 bytes, and 5,688 with step 1.
  */
 uint8_t slipgrease_encrypt_published(
     const uint8_t *schedule, size_t schedule_len,
     const uint8_t *input, size_t input_len,
     uint8_t *output_out, size_t output_len,
-    uint8_t offset, uint8_t step, uint8_t form) SLIPGREASE_CHECKED;
+    const uint8_t *offsets, size_t offsets_len,
+    uint8_t step, uint8_t form) SLIPGREASE_CHECKED;
 
 /*
  * Encrypts up to SLIPGREASE_BLOCKS_MAX blocks under the published masks, with one step: one after the other, each as
@@ -245,7 +260,7 @@ uint8_t slipgrease_encrypt_published(
  * offset is wrong, all blocks are refused. With no blocks at all the call is done, and nothing is written.
  * Reads schedule, 240 bytes, input, 16 bytes a block, and offsets, 1 byte a block. Writes output_out, 16 bytes a block.
  * Refusals: 2 SCHEDULE_LENGTH, 3 INPUT_LENGTH, 4 OUTPUT_LENGTH, 14 OFFSETS_LENGTH, 6 OFFSET_RANGE, 15 STEP_WRONG, 7 FORM_UNKNOWN.
- * Stack: 9,016 bytes, and 4,752 with step 1.
+ * Stack: 9,768 bytes, and 5,480 with step 1.
  */
 uint8_t slipgrease_encrypt_blocks(
     const uint8_t *schedule, size_t schedule_len,
@@ -256,62 +271,66 @@ uint8_t slipgrease_encrypt_blocks(
 
 /*
  * Encrypts one block under any sixteen masks, fit or not; their boxes are worked out first.
- * Reads schedule, 240 bytes, input, 16 bytes, and masks, 16 bytes. Writes output_out, 16 bytes.
- * Refusals: 2 SCHEDULE_LENGTH, 3 INPUT_LENGTH, 4 OUTPUT_LENGTH, 5 MASKS_LENGTH, 6 OFFSET_RANGE, 15 STEP_WRONG, 7 FORM_UNKNOWN.
- * Stack: 8,952 bytes.
+ * Reads schedule, 240 bytes, input, 16 bytes, masks, 16 bytes, and offsets, 16 bytes. Writes output_out, 16 bytes.
+ * Refusals: 2 SCHEDULE_LENGTH, 3 INPUT_LENGTH, 4 OUTPUT_LENGTH, 5 MASKS_LENGTH, 24 OFFSET_PER_BYTE, 6 OFFSET_RANGE, 15 STEP_WRONG, 7 FORM_UNKNOWN.
+ * Stack: 9,240 bytes.
  */
 uint8_t slipgrease_encrypt_masked(
     const uint8_t *schedule, size_t schedule_len,
     const uint8_t *input, size_t input_len,
     uint8_t *output_out, size_t output_len,
     const uint8_t *masks, size_t masks_len,
-    uint8_t offset, uint8_t step, uint8_t form) SLIPGREASE_CHECKED;
+    const uint8_t *offsets, size_t offsets_len,
+    uint8_t step, uint8_t form) SLIPGREASE_CHECKED;
 
 /*
  * Encrypts one block under any sixteen masks, and records the state at each of the 71 points of slipgrease_record_plain. Each is
  * the plain state under the mask that the table there names. No separate output block is written.
  * The masks do not keep this record from giving the key away, since state 0 and state 1 lie under the same mask, and so do
  * state 5 and state 6: here too, each pair xored is a round key, 0 and 1.
- * Reads schedule, 240 bytes, input, 16 bytes, and masks, 16 bytes. Writes record_out, 1,136 bytes.
- * Refusals: 2 SCHEDULE_LENGTH, 3 INPUT_LENGTH, 5 MASKS_LENGTH, 6 OFFSET_RANGE, 15 STEP_WRONG, 8 RECORD_LENGTH.
- * Stack: 9,096 bytes.
+ * Reads schedule, 240 bytes, input, 16 bytes, masks, 16 bytes, and offsets, 16 bytes. Writes record_out, 1,136 bytes.
+ * Refusals: 2 SCHEDULE_LENGTH, 3 INPUT_LENGTH, 5 MASKS_LENGTH, 24 OFFSET_PER_BYTE, 6 OFFSET_RANGE, 15 STEP_WRONG, 8 RECORD_LENGTH.
+ * Stack: 9,896 bytes.
  */
 uint8_t slipgrease_record_masked(
     const uint8_t *schedule, size_t schedule_len,
     const uint8_t *input, size_t input_len,
     const uint8_t *masks, size_t masks_len,
-    uint8_t offset, uint8_t step,
+    const uint8_t *offsets, size_t offsets_len,
+    uint8_t step,
     uint8_t *record_out, size_t record_len) SLIPGREASE_CHECKED;
 
 /*
  * Decrypts one block under the published masks, with step 1 by stored boxes; those of another step are worked out first.
- * Reads schedule, 240 bytes, and input, 16 bytes. Writes output_out, 16 bytes.
- * Refusals: 2 SCHEDULE_LENGTH, 3 INPUT_LENGTH, 4 OUTPUT_LENGTH, 6 OFFSET_RANGE, 15 STEP_WRONG.
- * Stack: 9,224 bytes, and 5,040 with step 1.
+ * Reads schedule, 240 bytes, input, 16 bytes, and offsets, 16 bytes. Writes output_out, 16 bytes.
+ * Refusals: 2 SCHEDULE_LENGTH, 3 INPUT_LENGTH, 4 OUTPUT_LENGTH, 24 OFFSET_PER_BYTE, 6 OFFSET_RANGE, 15 STEP_WRONG.
+ * Stack: 9,544 bytes, and 6,016 with step 1.
  */
 uint8_t slipgrease_decrypt_published(
     const uint8_t *schedule, size_t schedule_len,
     const uint8_t *input, size_t input_len,
     uint8_t *output_out, size_t output_len,
-    uint8_t offset, uint8_t step) SLIPGREASE_CHECKED;
+    const uint8_t *offsets, size_t offsets_len,
+    uint8_t step) SLIPGREASE_CHECKED;
 
 /*
  * Decrypts one block under any sixteen masks, fit or not; their boxes are worked out first.
- * Reads schedule, 240 bytes, input, 16 bytes, and masks, 16 bytes. Writes output_out, 16 bytes.
- * Refusals: 2 SCHEDULE_LENGTH, 3 INPUT_LENGTH, 4 OUTPUT_LENGTH, 5 MASKS_LENGTH, 6 OFFSET_RANGE, 15 STEP_WRONG.
- * Stack: 9,208 bytes.
+ * Reads schedule, 240 bytes, input, 16 bytes, masks, 16 bytes, and offsets, 16 bytes. Writes output_out, 16 bytes.
+ * Refusals: 2 SCHEDULE_LENGTH, 3 INPUT_LENGTH, 4 OUTPUT_LENGTH, 5 MASKS_LENGTH, 24 OFFSET_PER_BYTE, 6 OFFSET_RANGE, 15 STEP_WRONG.
+ * Stack: 9,496 bytes.
  */
 uint8_t slipgrease_decrypt_masked(
     const uint8_t *schedule, size_t schedule_len,
     const uint8_t *input, size_t input_len,
     uint8_t *output_out, size_t output_len,
     const uint8_t *masks, size_t masks_len,
-    uint8_t offset, uint8_t step) SLIPGREASE_CHECKED;
+    const uint8_t *offsets, size_t offsets_len,
+    uint8_t step) SLIPGREASE_CHECKED;
 
 /*
  * Decrypts one block under any sixteen masks, and records the state at each of 85 points. State s is at byte 16 * s of the record.
  *
- *     state                    the plain state of INVCIPHER        xored with, at offset o with step d
+ *     state                    the plain state of INVCIPHER        xored with (offsets o, step d)
  *     0                        at the beginning: the block         Mask(o)
  *     1                        after round key 14                  Mask(o)
  *     6r + 2    r = 0 .. 13    after InvShiftRows                  InvShiftRows(Mask(o+dr))
@@ -325,15 +344,16 @@ uint8_t slipgrease_decrypt_masked(
  * With sixteen masks 00 these are the plain states. No separate output block is written.
  * This record gives the key away too, covered or not: state 0 xor state 1 is round key 14, and state 4 xor state 5 is round key 13,
  * from which all others follow.
- * Reads schedule, 240 bytes, input, 16 bytes, and masks, 16 bytes. Writes record_out, 1,360 bytes.
- * Refusals: 2 SCHEDULE_LENGTH, 3 INPUT_LENGTH, 5 MASKS_LENGTH, 6 OFFSET_RANGE, 15 STEP_WRONG, 8 RECORD_LENGTH.
- * Stack: 9,352 bytes.
+ * Reads schedule, 240 bytes, input, 16 bytes, masks, 16 bytes, and offsets, 16 bytes. Writes record_out, 1,360 bytes.
+ * Refusals: 2 SCHEDULE_LENGTH, 3 INPUT_LENGTH, 5 MASKS_LENGTH, 24 OFFSET_PER_BYTE, 6 OFFSET_RANGE, 15 STEP_WRONG, 8 RECORD_LENGTH.
+ * Stack: 10,184 bytes.
  */
 uint8_t slipgrease_record_masked_decryption(
     const uint8_t *schedule, size_t schedule_len,
     const uint8_t *input, size_t input_len,
     const uint8_t *masks, size_t masks_len,
-    uint8_t offset, uint8_t step,
+    const uint8_t *offsets, size_t offsets_len,
+    uint8_t step,
     uint8_t *record_out, size_t record_len) SLIPGREASE_CHECKED;
 
 /*
@@ -373,7 +393,7 @@ uint8_t slipgrease_write_sheet(
  * Wraps key data: 2.2.1 of the RFC.
  * Reads schedule, 240 bytes, and key_data, 16, 24 .. 256 bytes. Writes wrapped_out, 8 bytes more than key_data.
  * Refusals: 2 SCHEDULE_LENGTH, 16 KEY_DATA_LENGTH, 17 WRAPPED_LENGTH.
- * Stack: 504 bytes.
+ * Stack: 584 bytes.
  */
 uint8_t slipgrease_wrap(
     const uint8_t *schedule, size_t schedule_len,
@@ -386,7 +406,7 @@ uint8_t slipgrease_wrap(
  * data was changed, or was wrapped under another key. Then no byte of key_data_out has changed.
  * Reads schedule, 240 bytes, and wrapped, 8 bytes more than key_data. Writes key_data_out, 16, 24 .. 256 bytes.
  * Refusals: 2 SCHEDULE_LENGTH, 16 KEY_DATA_LENGTH, 17 WRAPPED_LENGTH, 18 INTEGRITY.
- * Stack: 776 bytes.
+ * Stack: 856 bytes.
  */
 uint8_t slipgrease_unwrap(
     const uint8_t *schedule, size_t schedule_len,
@@ -397,7 +417,7 @@ uint8_t slipgrease_unwrap(
  * Wraps key data by the module's engine, and writes what slipgrease_wrap does.
  * Reads schedule, 240 bytes, and key_data, 16, 24 .. 256 bytes. Writes wrapped_out, 8 bytes more than key_data.
  * Refusals: 2 SCHEDULE_LENGTH, 6 OFFSET_RANGE, 16 KEY_DATA_LENGTH, 17 WRAPPED_LENGTH.
- * Stack: 4,816 bytes.
+ * Stack: 5,784 bytes.
  */
 uint8_t slipgrease_wrap_masked(
     const uint8_t *schedule, size_t schedule_len,
@@ -409,7 +429,7 @@ uint8_t slipgrease_wrap_masked(
  * Unwraps key data by the module's engine, and writes and refuses what slipgrease_unwrap does.
  * Reads schedule, 240 bytes, and wrapped, 8 bytes more than key_data. Writes key_data_out, 16, 24 .. 256 bytes.
  * Refusals: 2 SCHEDULE_LENGTH, 6 OFFSET_RANGE, 16 KEY_DATA_LENGTH, 17 WRAPPED_LENGTH, 18 INTEGRITY.
- * Stack: 5,392 bytes.
+ * Stack: 6,384 bytes.
  */
 uint8_t slipgrease_unwrap_masked(
     const uint8_t *schedule, size_t schedule_len,

@@ -66,25 +66,25 @@ calls! {
     slipgrease_decrypt as decrypt(schedule: &[u8], input: &[u8], output: &mut [u8]) -> u8;
     slipgrease_record_plain as record_plain(schedule: &[u8], input: &[u8], states: &mut [u8]) -> u8;
     slipgrease_encrypt_published as encrypt_published(
-        schedule: &[u8], input: &[u8], output: &mut [u8], offset: u8, step: u8, form: u8
+        schedule: &[u8], input: &[u8], output: &mut [u8], offsets: &[u8], step: u8, form: u8
     ) -> u8;
     slipgrease_encrypt_blocks as encrypt_blocks(
         schedule: &[u8], input: &[u8], output: &mut [u8], offsets: &[u8], step: u8, form: u8
     ) -> u8;
     slipgrease_encrypt_masked as encrypt_masked(
-        schedule: &[u8], input: &[u8], output: &mut [u8], masks: &[u8], offset: u8, step: u8, form: u8
+        schedule: &[u8], input: &[u8], output: &mut [u8], masks: &[u8], offsets: &[u8], step: u8, form: u8
     ) -> u8;
     slipgrease_record_masked as record_masked(
-        schedule: &[u8], input: &[u8], masks: &[u8], offset: u8, step: u8, states: &mut [u8]
+        schedule: &[u8], input: &[u8], masks: &[u8], offsets: &[u8], step: u8, states: &mut [u8]
     ) -> u8;
     slipgrease_decrypt_published as decrypt_published(
-        schedule: &[u8], input: &[u8], output: &mut [u8], offset: u8, step: u8
+        schedule: &[u8], input: &[u8], output: &mut [u8], offsets: &[u8], step: u8
     ) -> u8;
     slipgrease_decrypt_masked as decrypt_masked(
-        schedule: &[u8], input: &[u8], output: &mut [u8], masks: &[u8], offset: u8, step: u8
+        schedule: &[u8], input: &[u8], output: &mut [u8], masks: &[u8], offsets: &[u8], step: u8
     ) -> u8;
     slipgrease_record_masked_decryption as record_masked_decryption(
-        schedule: &[u8], input: &[u8], masks: &[u8], offset: u8, step: u8, states: &mut [u8]
+        schedule: &[u8], input: &[u8], masks: &[u8], offsets: &[u8], step: u8, states: &mut [u8]
     ) -> u8;
     slipgrease_read_sheet as read_sheet(sheet: &[u8], masks: &mut [u8]) -> u16;
     slipgrease_write_sheet as write_sheet(masks: &[u8], step: u8, sheet: &mut [u8]) -> u8;

@@ -7,8 +7,8 @@
 //! nothing.
 //!
 //! There are two ways to call it. The functions of this page take slices of any length and hand them on as they are. The types
-//! [`Schedule`], [`Masks`], [`Offset`], [`Step`] and [`Pipes`] hold only what the library takes, so that their calls cannot be
-//! refused, except for those that wrap keys, whose lengths vary, and those over packets, which are as they come:
+//! [`Schedule`], [`Masks`], [`Offset`], [`Offsets`], [`Step`] and [`Pipes`] hold only what the library takes, so that their calls
+//! cannot be refused, except for those that wrap keys, whose lengths vary, and those over packets, which are as they come:
 //!
 //! ```
 //! use slipgrease::{Offset, Schedule, Step};
@@ -45,6 +45,7 @@
 #[allow(unsafe_code)]
 pub mod calls;
 mod masks;
+mod offsets;
 mod packets;
 mod record;
 mod refusal;
@@ -55,6 +56,7 @@ mod wiped;
 mod wrap;
 
 pub use crate::masks::{Masks, Offset, Step};
+pub use crate::offsets::Offsets;
 pub use crate::packets::{Packet, PacketWriter, Parity, Pipe, Pipes, RefusedPacket, Stream, Way};
 pub use crate::record::{Direction, Point, Record, Stage};
 pub use crate::refusal::{sort_reply, Fault, Refusal, UnknownReply};

@@ -92,7 +92,8 @@ impl TryFrom<&[u8]> for Masks {
     }
 }
 
-/// The label of the first mask of a run, 0 to 15.
+/// The label of the first mask of a run, 0 to 15: the one over byte 0, behind which each byte has the next, modulo 16. Labels that
+/// do not follow one another so are [`Offsets`](crate::Offsets).
 ///
 /// ```
 /// use slipgrease::{Offset, Refusal};
@@ -177,8 +178,8 @@ impl Step {
     /// The step of the first modules, for which the library has its boxes stored. For others it works them out, call by call.
     pub const ONE: Step = Step(1);
 
-    /// A step, if the number is 1 or 4 to 15: 0 would keep one mask through a box, and 2 and 3 would put what a box gives and
-    /// what the next one called takes under the same mask.
+    /// A step, if the number is 1 or 4 to 15: 0 would keep one mask through a box, and at one offset 2 and 3 would put what a box
+    /// gives and what the next one called takes under the same mask.
     pub fn new(number: u8) -> Result<Step, Refusal> {
         match number {
             1 | 4..=15 => Ok(Step(number)),

@@ -1,6 +1,7 @@
 //! The recorded states of a run, and the points at which they are taken.
 
-use crate::masks::{Offset, Step};
+use crate::masks::Step;
+use crate::offsets::Offsets;
 use crate::schedule::Block;
 use crate::wiped::Wiped;
 use std::fmt;
@@ -177,14 +178,16 @@ impl fmt::Display for Stage {
 /// One of the points of a run. Those of an encryption come before those of a decryption, each in their order.
 ///
 /// ```
-/// use slipgrease::{Direction, Offset, Point, Step};
+/// use slipgrease::{Direction, Offset, Offsets, Point, Step};
 ///
 /// let (offset, step) = (Offset::new(15).unwrap(), Step::new(5).unwrap());
+/// let sixteen = Offsets::new([15; 16]).unwrap();
 /// let points: Vec<Point> = Direction::Encryption.points().collect();
 /// assert_eq!(points.len(), 71);
 /// assert_eq!(points[4].to_string(), "MixColumns 0");
 /// assert_eq!(points[4].mask(offset, Step::ONE), "MixColumns(ShiftRows(Mask(0)))");
 /// assert_eq!(points[4].mask(offset, step), "MixColumns(ShiftRows(Mask(4)))");
+/// assert_eq!(points[4].mask(sixteen, step), "MixColumns(ShiftRows(Mask(o+5)))");
 /// assert_eq!(points[69].to_string(), "key 14");
 ///
 /// let points: Vec<Point> = Direction::Decryption.points().collect();
@@ -253,10 +256,16 @@ impl Point {
         }
     }
 
-    /// The mask that lies over the state here in a masked run at an offset and a step, as the rules name it.
-    pub fn mask(self, offset: Offset, step: Step) -> String {
-        let label = |rounds: usize| (usize::from(offset.number()) + usize::from(step.number()) * rounds) % 16;
-        let [before, after] = [self.round(), self.round() + 1].map(|rounds| format!("Mask({})", label(rounds)));
+    /// The mask that lies over the state here in a masked run at offsets and with a step, as the rules name it: by its label at those
+    /// that one offset stands for, as Mask(7), and at any other offsets o by how far it is on from these, as Mask(o+4).
+    pub fn mask(self, offsets: impl Into<Offsets>, step: Step) -> String {
+        let one = offsets.into().as_one();
+        let mask = |rounds: usize| match (one, usize::from(step.number()) * rounds % 16) {
+            (Some(offset), on) => format!("Mask({})", (usize::from(offset.number()) + on) % 16),
+            (None, 0) => "Mask(o)".to_string(),
+            (None, on) => format!("Mask(o+{on})"),
+        };
+        let [before, after] = [self.round(), self.round() + 1].map(mask);
         match self.stage() {
             Stage::Key => match (self.direction, self.number) {
                 (Direction::Encryption, 69) => format!("ShiftRows({after})"),

@@ -64,10 +64,12 @@ pub enum Refusal {
     PipesWrong = 22,
     /// The packet's scrambling bits: not 00 in scrambling; in descrambling 01, or set over a payload that is too short for it.
     BitsWrong = 23,
+    /// There are not 16 offsets, one for each byte of the block.
+    OffsetPerByte = 24,
 }
 
 /// The name and the meaning of each, in the order of their numbers.
-const REFUSALS: [(Refusal, &str, &str); 23] = [
+const REFUSALS: [(Refusal, &str, &str); 24] = [
     (Refusal::KeyLength, "KEY_LENGTH", "the key is not 32 bytes long"),
     (Refusal::ScheduleLength, "SCHEDULE_LENGTH", "the schedule is not 240 bytes long"),
     (Refusal::InputLength, "INPUT_LENGTH", "the input is not 16 bytes long; of many blocks, not 16 for each of 256 at most"),
@@ -95,6 +97,7 @@ const REFUSALS: [(Refusal, &str, &str); 23] = [
         "the list is not 3,486 bytes long, or has a PID outside 0010 to 1ffe, or the same PID twice",
     ),
     (Refusal::BitsWrong, "BITS_WRONG", "the scrambling bits do not allow what is to be done"),
+    (Refusal::OffsetPerByte, "OFFSET_PER_BYTE", "there are not 16 offsets, one for each byte of the block"),
 ];
 
 impl Refusal {
@@ -109,7 +112,7 @@ impl Refusal {
         REFUSALS.iter().map(|row| row.0).find(|refusal| refusal.number() == number)
     }
 
-    /// The reply number, 1 to 23.
+    /// The reply number, 1 to 24.
     pub fn number(self) -> u8 {
         self as u8
     }

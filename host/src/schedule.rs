@@ -2,6 +2,7 @@
 
 use crate::calls;
 use crate::masks::{Masks, Offset, Step};
+use crate::offsets::Offsets;
 use crate::record::{Direction, Record};
 use crate::refusal::Refusal;
 use crate::slices;
@@ -77,15 +78,26 @@ impl Schedule {
         record
     }
 
-    /// The block that a masked run with the published masks ends with: the one of [`encrypt`](Schedule::encrypt).
+    /// The block that a masked run with the published masks ends with, at one offset or at one for each byte: the one of
+    /// [`encrypt`](Schedule::encrypt).
+    ///
+    /// ```
+    /// use slipgrease::{Offset, Offsets, Schedule, Step};
+    ///
+    /// let schedule = Schedule::expand(&[1; 32]);
+    /// let one = Offset::new(3).unwrap();
+    /// let sixteen = Offsets::new([3, 9, 0, 15, 7, 7, 12, 4, 1, 10, 2, 8, 5, 14, 6, 11]).unwrap();
+    /// assert_eq!(schedule.encrypt_published(&[2; 16], one, Step::ONE), schedule.encrypt(&[2; 16]));
+    /// assert_eq!(schedule.encrypt_published(&[2; 16], sixteen, Step::ONE), schedule.encrypt(&[2; 16]));
+    /// ```
     #[must_use]
-    pub fn encrypt_published(&self, block: &Block, offset: Offset, step: Step) -> Block {
-        let mut output = [0; 16];
-        slices::encrypt_published(&self.0, block, &mut output, offset.number(), step.number(), FORM).expect(FITS);
+    pub fn encrypt_published(&self, block: &Block, offsets: impl Into<Offsets>, step: Step) -> Block {
+        let (offsets, mut output) = (offsets.into(), [0; 16]);
+        slices::encrypt_published(&self.0, block, &mut output, offsets.as_bytes(), step.number(), FORM).expect(FITS);
         output
     }
 
-    /// The same of many blocks, each at an offset of its own and all with one step, by one call for every 256 of them.
+    /// The same of many blocks, each at one offset of its own and all with one step, by one call for every 256 of them.
     ///
     /// ```
     /// use slipgrease::{Offset, Schedule, Step};
@@ -112,9 +124,9 @@ impl Schedule {
 
     /// The block that a masked run with any sixteen masks ends with: the same one.
     #[must_use]
-    pub fn encrypt_masked(&self, block: &Block, masks: &Masks, offset: Offset, step: Step) -> Block {
-        let mut output = [0; 16];
-        slices::encrypt_masked(&self.0, block, &mut output, masks.as_bytes(), offset.number(), step.number(), FORM).expect(FITS);
+    pub fn encrypt_masked(&self, block: &Block, masks: &Masks, offsets: impl Into<Offsets>, step: Step) -> Block {
+        let (masks, offsets, mut output) = (masks.as_bytes(), offsets.into(), [0; 16]);
+        slices::encrypt_masked(&self.0, block, &mut output, masks, offsets.as_bytes(), step.number(), FORM).expect(FITS);
         output
     }
 
@@ -131,14 +143,15 @@ impl Schedule {
     /// assert_eq!(covered.state(70), &schedule.encrypt(&[2; 16]));
     /// ```
     #[must_use]
-    pub fn record_masked(&self, block: &Block, masks: &Masks, offset: Offset, step: Step) -> Record {
+    pub fn record_masked(&self, block: &Block, masks: &Masks, offsets: impl Into<Offsets>, step: Step) -> Record {
         let mut record = Record::blank(Direction::Encryption);
-        let (masks, states) = (masks.as_bytes(), record.as_bytes_mut());
-        slices::record_masked(&self.0, block, masks, offset.number(), step.number(), states).expect(FITS);
+        let (masks, offsets, states) = (masks.as_bytes(), offsets.into(), record.as_bytes_mut());
+        slices::record_masked(&self.0, block, masks, offsets.as_bytes(), step.number(), states).expect(FITS);
         record
     }
 
-    /// The block that a masked decryption with the published masks ends with: the one of [`decrypt`](Schedule::decrypt).
+    /// The block that a masked decryption with the published masks ends with: the one of [`decrypt`](Schedule::decrypt). Neither the
+    /// offsets nor the step need be those with which it was encrypted.
     ///
     /// ```
     /// use slipgrease::{Offset, Schedule, Step};
@@ -149,17 +162,17 @@ impl Schedule {
     /// assert_eq!(schedule.decrypt_published(&made, Offset::new(9).unwrap(), other_step), [2; 16]);
     /// ```
     #[must_use]
-    pub fn decrypt_published(&self, block: &Block, offset: Offset, step: Step) -> Block {
-        let mut output = [0; 16];
-        slices::decrypt_published(&self.0, block, &mut output, offset.number(), step.number()).expect(FITS);
+    pub fn decrypt_published(&self, block: &Block, offsets: impl Into<Offsets>, step: Step) -> Block {
+        let (offsets, mut output) = (offsets.into(), [0; 16]);
+        slices::decrypt_published(&self.0, block, &mut output, offsets.as_bytes(), step.number()).expect(FITS);
         output
     }
 
     /// The block that a masked decryption with any sixteen masks ends with: the same one.
     #[must_use]
-    pub fn decrypt_masked(&self, block: &Block, masks: &Masks, offset: Offset, step: Step) -> Block {
-        let mut output = [0; 16];
-        slices::decrypt_masked(&self.0, block, &mut output, masks.as_bytes(), offset.number(), step.number()).expect(FITS);
+    pub fn decrypt_masked(&self, block: &Block, masks: &Masks, offsets: impl Into<Offsets>, step: Step) -> Block {
+        let (masks, offsets, mut output) = (masks.as_bytes(), offsets.into(), [0; 16]);
+        slices::decrypt_masked(&self.0, block, &mut output, masks, offsets.as_bytes(), step.number()).expect(FITS);
         output
     }
 
@@ -175,10 +188,10 @@ impl Schedule {
     /// assert_eq!(covered.state(84), &schedule.decrypt(&[2; 16]));
     /// ```
     #[must_use]
-    pub fn record_masked_decryption(&self, block: &Block, masks: &Masks, offset: Offset, step: Step) -> Record {
+    pub fn record_masked_decryption(&self, block: &Block, masks: &Masks, offsets: impl Into<Offsets>, step: Step) -> Record {
         let mut record = Record::blank(Direction::Decryption);
-        let (masks, states) = (masks.as_bytes(), record.as_bytes_mut());
-        slices::record_masked_decryption(&self.0, block, masks, offset.number(), step.number(), states).expect(FITS);
+        let (masks, offsets, states) = (masks.as_bytes(), offsets.into(), record.as_bytes_mut());
+        slices::record_masked_decryption(&self.0, block, masks, offsets.as_bytes(), step.number(), states).expect(FITS);
         record
     }
 }
@@ -205,8 +218,9 @@ impl fmt::Debug for Schedule {
 mod tests {
     use super::{Block, Schedule};
     use crate::masks::{Masks, Offset, Step};
+    use crate::offsets::Offsets;
 
-    /// FIPS 197, C.3, under two mask tables.
+    /// FIPS 197, C.3, under two mask tables, at one offset and at sixteen.
     #[test]
     fn masked_runs_are_the_standard_s_both_ways() {
         let schedule = Schedule::expand(&std::array::from_fn(|i| i as u8));
@@ -214,10 +228,13 @@ mod tests {
         let ciphertext = 0x8ea2b7ca516745bfeafc49904b496089_u128.to_be_bytes();
         let others = Masks::new(plaintext);
         for (offset, step) in Offset::all().flat_map(|offset| Step::all().map(move |step| (offset, step))) {
-            assert_eq!(schedule.encrypt_published(&plaintext, offset, step), ciphertext);
-            assert_eq!(schedule.encrypt_masked(&plaintext, &others, offset, step), ciphertext);
-            assert_eq!(schedule.decrypt_published(&ciphertext, offset, step), plaintext);
-            assert_eq!(schedule.decrypt_masked(&ciphertext, &others, offset, step), plaintext);
+            let mixed = std::array::from_fn(|i| ((usize::from(offset.number()) + 5 * i * i + 3 * i) % 16) as u8);
+            for offsets in [Offsets::one(offset), Offsets::new(mixed).unwrap()] {
+                assert_eq!(schedule.encrypt_published(&plaintext, offsets, step), ciphertext);
+                assert_eq!(schedule.encrypt_masked(&plaintext, &others, offsets, step), ciphertext);
+                assert_eq!(schedule.decrypt_published(&ciphertext, offsets, step), plaintext);
+                assert_eq!(schedule.decrypt_masked(&ciphertext, &others, offsets, step), plaintext);
+            }
         }
     }
 

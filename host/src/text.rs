@@ -1,6 +1,7 @@
 //! Offsets, steps, masks and parities as text: what one prints, the other reads. Ways and faults are only printed.
 
 use crate::masks::{Masks, Offset, Step};
+use crate::offsets::Offsets;
 use crate::packets::{Parity, Way};
 use crate::refusal::Fault;
 use std::error::Error;
@@ -46,6 +47,41 @@ impl FromStr for Offset {
 
     fn from_str(text: &str) -> Result<Offset, ParseError> {
         number(text).and_then(|number| Offset::new(number).ok()).ok_or(ParseError("an offset is a number from 0 to 15"))
+    }
+}
+
+/// The number of the one offset that stands for them, or all sixteen, with commas between them.
+impl fmt::Display for Offsets {
+    fn fmt(&self, f: &mut fmt::Formatter) -> fmt::Result {
+        match self.as_one() {
+            Some(offset) => offset.fmt(f),
+            None => f.pad(&self.as_bytes().map(|number| number.to_string()).join(",")),
+        }
+    }
+}
+
+/// Reads one number, or sixteen with commas between them, in decimal digits.
+///
+/// ```
+/// use slipgrease::{Offset, Offsets};
+///
+/// let one: Offsets = "3".parse().unwrap();
+/// let sixteen: Offsets = "3,9,0,15,7,7,12,4,1,10,2,8,5,14,6,11".parse().unwrap();
+/// assert_eq!((one.as_one(), sixteen.as_bytes()[3]), (Offset::new(3).ok(), 15));
+/// assert_eq!((one.to_string(), sixteen.to_string()), ("3".into(), "3,9,0,15,7,7,12,4,1,10,2,8,5,14,6,11".into()));
+/// assert!(["3,4", "16", "3, 9"].iter().all(|text| text.parse::<Offsets>().is_err()));
+/// ```
+impl FromStr for Offsets {
+    type Err = ParseError;
+
+    fn from_str(text: &str) -> Result<Offsets, ParseError> {
+        let read: Option<Vec<u8>> = text.split(',').map(number).collect();
+        let offsets = match read.as_deref() {
+            Some([one]) => Offset::new(*one).map(Offsets::one).ok(),
+            Some(numbers) => Offsets::try_from(numbers).ok(),
+            None => None,
+        };
+        offsets.ok_or(ParseError("offsets are a number from 0 to 15, or sixteen with commas between them"))
     }
 }
 
@@ -165,8 +201,12 @@ mod tests {
             assert_eq!(text.parse::<Step>().ok(), Step::try_from(number).ok());
             let masks = Masks::new(std::array::from_fn(|i| number.wrapping_mul(37).wrapping_add(11 * i as u8)));
             assert_eq!(masks.to_string().parse(), Ok(masks));
+            let sixteen = Offsets::new(masks.as_bytes().map(|mask| mask % 16)).unwrap();
+            assert_eq!(sixteen.to_string().parse(), Ok(sixteen));
+            assert_eq!(text.parse().ok(), Offset::try_from(number).ok().map(Offsets::one));
         }
         assert!(Offset::all().all(|offset| offset.to_string().parse() == Ok(offset)));
+        assert!(Offset::all().all(|offset| Offsets::one(offset).to_string() == offset.to_string()));
         assert!(Step::all().all(|step| step.to_string().parse() == Ok(step)));
         assert!([Parity::Even, Parity::Odd].iter().all(|parity| parity.to_string().parse() == Ok(*parity)));
     }
@@ -177,6 +217,12 @@ mod tests {
             assert_eq!(text.parse::<Offset>(), Err(ParseError("an offset is a number from 0 to 15")), "{text}");
             assert_eq!(text.parse::<Step>(), Err(ParseError("a step is 1, or a number from 4 to 15")), "{text}");
             assert_eq!(text.parse::<Parity>(), Err(ParseError("a parity is even or odd")), "{text}");
+        }
+        let fifteen = "3,9,0,15,7,7,12,4,1,10,2,8,5,14,6";
+        assert!(format!("{fifteen},015").parse::<Offsets>().is_ok());
+        for behind in ["", ",", ",16", ",+1", ", 1", ",1,", ",1,2", ";1"] {
+            let error = ParseError("offsets are a number from 0 to 15, or sixteen with commas between them");
+            assert_eq!(format!("{fifteen}{behind}").parse::<Offsets>(), Err(error), "{behind}");
         }
         let digits = "000f3639535c656a959aa3acc6c9f0ff";
         for text in ["", &digits[1..], &format!("{digits}0"), &digits.replace("0f36", "+f36"), &digits.replace("ff", "é")] {

@@ -1,18 +1,14 @@
 /*
  * Every call of the header as a C compiler makes it, with answers of FIPS 197 and of the rules of the masks, and a null pointer
- * of length 0 in the place of each buffer. How the calls answer in general is for the proofs and the second program. Masked
- * decryption is in decryption.c, key wrap in wrap.c, and packets are in packets.c.
+ * of length 0 in the place of each buffer. How the calls answer in general is for the proofs and the second program. The masked
+ * calls are in masked.c, encryption.c, decryption.c and offsets.c, key wrap is in wrap.c, and packets are in packets.c.
  *
  * Usage: calls [NAME]. What is expected of the call NAME, which goes without slipgrease_, is spoiled: it must be found to differ.
  * Prints a line for each difference, and fails if there is any.
  */
 #include "expect.h"
 
-#include <string.h>
-
-/* At offset o byte i of the block is covered by M(o + i), and of what early modules stored in form 1 by M(o + 14 + i); o is 5
-   where nothing else is said. */
-static const char covered[] = "5c7448a6def6cab1416955bbc3ebd7ac";
+/* Byte i of what early modules stored in form 1 at offset o is covered by M(o + 14 + i); o is 5 where nothing else is said. */
 static const char form_1[] = "b7f1ebaf3bf2df1c463a8060b4496fbf";
 static const char form_1_at_7[] = "d2c7dd5fcbc4e979230cb690447f59da";
 static const uint8_t rising[SLIPGREASE_MASKS_BYTES] = {0, 1, 2, 3, 4, 5, 6, 7, 8, 9, 10, 11, 12, 13, 14, 15};
@@ -20,14 +16,14 @@ static const uint8_t rising[SLIPGREASE_MASKS_BYTES] = {0, 1, 2, 3, 4, 5, 6, 7, 8
 static uint8_t key[SLIPGREASE_KEY_BYTES], in[SLIPGREASE_BLOCK_BYTES], out[SLIPGREASE_BLOCK_BYTES];
 static uint8_t record[SLIPGREASE_RECORD_BYTES], table[SLIPGREASE_MASKS_BYTES];
 
-/* A record gives the key away, covered or not: state 5r xor state 5r + 1 is round key r, and the first two are the key. */
-static void given_away(const char *call)
+/* A record gives the key away: state 5r xor state 5r + 1 is round key r, and the first two are the key. */
+static void given_away(void)
 {
     for (size_t r = 0; r < 2; r++) {
         uint8_t xored[SLIPGREASE_BLOCK_BYTES];
         for (size_t i = 0; i < sizeof xored; i++)
             xored[i] = record[16 * 5 * r + i] ^ record[16 * (5 * r + 1) + i];
-        alike(call, xored, key + 16 * r, sizeof xored);
+        alike("record_plain", xored, key + 16 * r, sizeof xored);
     }
 }
 
@@ -61,112 +57,15 @@ static void rack(void)
     bytes("record_plain", record + 16 * 3, "6353e08c0960e104cd70b751bacad0e7");
     bytes("record_plain", record + 16 * 4, "5f72641557f5bc92f7be3b291db9f91a");
     bytes("record_plain", record + 16 * (SLIPGREASE_STATES - 1), ciphertext);
-    given_away("record_plain");
+    given_away();
     CALL(record_plain, SLIPGREASE_REPLY_SCHEDULE_LENGTH, NONE, LENT(in), LENT(record));
     CALL(record_plain, SLIPGREASE_REPLY_INPUT_LENGTH, LENT(w), NONE, LENT(record));
     CALL(record_plain, SLIPGREASE_REPLY_RECORD_LENGTH, LENT(w), LENT(in), NONE);
 }
 
-/* The block of C.3, and its ciphertext as another block, which the rack's engine must get back. */
-static void many(void)
-{
-    static const uint8_t offsets[] = {5, 7, 16};
-    uint8_t two[2 * SLIPGREASE_BLOCK_BYTES], made[2 * SLIPGREASE_BLOCK_BYTES];
-    memcpy(two, in, sizeof in);
-    memcpy(two + sizeof in, out, sizeof out);
-    CALL(encrypt_blocks, SLIPGREASE_REPLY_DONE, LENT(w), LENT(two), LENT(made), offsets, 2, 1, 0);
-    bytes("encrypt_blocks", made, ciphertext);
-    CALL(decrypt, SLIPGREASE_REPLY_DONE, LENT(w), made + sizeof in, sizeof in, LENT(table));
-    bytes("encrypt_blocks", table, ciphertext);
-    CALL(encrypt_blocks, SLIPGREASE_REPLY_DONE, LENT(w), NONE, NONE, NONE, 1, 0);
-    CALL(encrypt_blocks, SLIPGREASE_REPLY_FORM_UNKNOWN, LENT(w), NONE, NONE, NONE, 1, 1);
-    CALL(encrypt_blocks, SLIPGREASE_REPLY_SCHEDULE_LENGTH, NONE, NONE, NONE, NONE, 1, 0);
-    CALL(encrypt_blocks, SLIPGREASE_REPLY_INPUT_LENGTH, LENT(w), two, 17, LENT(made), offsets, 2, 1, 0);
-    CALL(encrypt_blocks, SLIPGREASE_REPLY_OUTPUT_LENGTH, LENT(w), NONE, LENT(made), offsets, 2, 1, 0);
-    CALL(encrypt_blocks, SLIPGREASE_REPLY_OUTPUT_LENGTH, LENT(w), LENT(two), NONE, offsets, 2, 1, 0);
-    CALL(encrypt_blocks, SLIPGREASE_REPLY_OFFSETS_LENGTH, LENT(w), LENT(two), LENT(made), NONE, 1, 0);
-    CALL(encrypt_blocks, SLIPGREASE_REPLY_OFFSETS_LENGTH, LENT(w), LENT(two), LENT(made), LENT(offsets), 1, 0);
-    CALL(encrypt_blocks, SLIPGREASE_REPLY_OFFSET_RANGE, LENT(w), LENT(two), LENT(made), offsets + 1, 2, 2, 0);
-    CALL(encrypt_blocks, SLIPGREASE_REPLY_STEP_WRONG, LENT(w), LENT(two), LENT(made), offsets, 2, 2, 1);
-    bytes("encrypt_blocks", made, ciphertext);
-}
-
-static void module(void)
-{
-    CALL(encrypt_published, SLIPGREASE_REPLY_DONE, LENT(w), LENT(in), LENT(out), 5, 1, 0);
-    bytes("encrypt_published", out, ciphertext);
-    CALL(encrypt_published, SLIPGREASE_REPLY_SCHEDULE_LENGTH, NONE, LENT(in), LENT(out), 5, 1, 0);
-    CALL(encrypt_published, SLIPGREASE_REPLY_INPUT_LENGTH, LENT(w), NONE, LENT(out), 5, 1, 0);
-    CALL(encrypt_published, SLIPGREASE_REPLY_OUTPUT_LENGTH, LENT(w), LENT(in), NONE, 5, 1, 0);
-    CALL(encrypt_published, SLIPGREASE_REPLY_OFFSET_RANGE, LENT(w), LENT(in), LENT(out), 16, 2, 0);
-    CALL(encrypt_published, SLIPGREASE_REPLY_STEP_WRONG, LENT(w), LENT(in), LENT(out), 5, 2, 1);
-    CALL(encrypt_published, SLIPGREASE_REPLY_FORM_UNKNOWN, LENT(w), LENT(in), LENT(out), 5, 1, 1);
-
-    many();
-
-    CALL(encrypt_masked, SLIPGREASE_REPLY_DONE, LENT(w), LENT(in), LENT(out), LENT(masks), 5, 1, 0);
-    bytes("encrypt_masked", out, ciphertext);
-    CALL(encrypt_masked, SLIPGREASE_REPLY_SCHEDULE_LENGTH, NONE, LENT(in), LENT(out), LENT(masks), 5, 1, 0);
-    CALL(encrypt_masked, SLIPGREASE_REPLY_INPUT_LENGTH, LENT(w), NONE, LENT(out), LENT(masks), 5, 1, 0);
-    CALL(encrypt_masked, SLIPGREASE_REPLY_OUTPUT_LENGTH, LENT(w), LENT(in), NONE, LENT(masks), 5, 1, 0);
-    CALL(encrypt_masked, SLIPGREASE_REPLY_MASKS_LENGTH, LENT(w), LENT(in), LENT(out), NONE, 5, 1, 0);
-    CALL(encrypt_masked, SLIPGREASE_REPLY_OFFSET_RANGE, LENT(w), LENT(in), LENT(out), LENT(masks), 16, 2, 0);
-    CALL(encrypt_masked, SLIPGREASE_REPLY_STEP_WRONG, LENT(w), LENT(in), LENT(out), LENT(masks), 5, 2, 1);
-    CALL(encrypt_masked, SLIPGREASE_REPLY_FORM_UNKNOWN, LENT(w), LENT(in), LENT(out), LENT(masks), 5, 1, 1);
-
-    CALL(record_masked, SLIPGREASE_REPLY_DONE, LENT(w), LENT(in), LENT(masks), 5, 1, LENT(record));
-    bytes("record_masked", record, covered);
-    bytes("record_masked", record + 16 * (SLIPGREASE_STATES - 1), ciphertext);
-    CALL(record_masked, SLIPGREASE_REPLY_SCHEDULE_LENGTH, NONE, LENT(in), LENT(masks), 5, 1, LENT(record));
-    CALL(record_masked, SLIPGREASE_REPLY_INPUT_LENGTH, LENT(w), NONE, LENT(masks), 5, 1, LENT(record));
-    CALL(record_masked, SLIPGREASE_REPLY_MASKS_LENGTH, LENT(w), LENT(in), NONE, 5, 1, LENT(record));
-    CALL(record_masked, SLIPGREASE_REPLY_OFFSET_RANGE, LENT(w), LENT(in), LENT(masks), 16, 2, LENT(record));
-    CALL(record_masked, SLIPGREASE_REPLY_STEP_WRONG, LENT(w), LENT(in), LENT(masks), 5, 2, NONE);
-    CALL(record_masked, SLIPGREASE_REPLY_RECORD_LENGTH, LENT(w), LENT(in), LENT(masks), 5, 1, NONE);
-}
-
-/* Every step, taken or not. The labels advance by it from round to round, and by one from byte to byte. */
-static void steps(void)
-{
-    static const uint8_t five[] = {5};
-    for (int i = 0; i < 256; i++) {
-        uint8_t d = (uint8_t)i, reply = reply_to_step(d);
-        memset(out, 0, sizeof out);
-        memset(table, 0, sizeof table);
-        CALL(encrypt_published, reply, LENT(w), LENT(in), LENT(out), 5, d, 0);
-        CALL(encrypt_blocks, reply, LENT(w), LENT(in), LENT(table), LENT(five), d, 0);
-        if (reply == SLIPGREASE_REPLY_DONE) {
-            bytes("encrypt_published", out, ciphertext);
-            bytes("encrypt_blocks", table, ciphertext);
-        }
-        memset(out, 0, sizeof out);
-        CALL(encrypt_masked, reply, LENT(w), LENT(in), LENT(out), LENT(masks), 5, d, 0);
-        CALL(record_masked, reply, LENT(w), LENT(in), LENT(masks), 5, d, LENT(record));
-        if (reply == SLIPGREASE_REPLY_DONE) {
-            bytes("encrypt_masked", out, ciphertext);
-            given_away("record_masked");
-            under("record_masked", record, 5, plaintext);
-            under("record_masked", record + 16 * 1, 5, "00102030405060708090a0b0c0d0e0f0");
-            under("record_masked", record + 16 * 2, 5 + d, "63cab7040953d051cd60e0e7ba70e18c");
-            under("record_masked", record + 16 * 5, 5 + d, "5f72641557f5bc92f7be3b291db9f91a");
-            under("record_masked", record + 16 * 6, 5 + d, "4f63760643e0aa85efa7213201a4e705");
-            under("record_masked", record + 16 * 7, 5 + 2 * d, "84fb386f1ae1ac97df5cfd237c49946b");
-            under("record_masked", record + 16 * 10, 5 + 2 * d, "bd2a395d2b6ac438d192443e615da195");
-            bytes("record_masked", record + 16 * (SLIPGREASE_STATES - 1), ciphertext);
-        }
-    }
-}
-
-/* No form but 0 is taken. What early modules stored in form 1 is converted, and a second time gives it back. */
+/* What early modules stored in form 1 is converted, and a second time gives it back. */
 static void forms(void)
 {
-    static const uint8_t five[] = {5};
-    for (int i = 1; i < 256; i++) {
-        uint8_t form = (uint8_t)i;
-        CALL(encrypt_published, SLIPGREASE_REPLY_FORM_UNKNOWN, LENT(w), LENT(in), LENT(out), 5, 1, form);
-        CALL(encrypt_blocks, SLIPGREASE_REPLY_FORM_UNKNOWN, LENT(w), LENT(in), LENT(out), LENT(five), 1, form);
-        CALL(encrypt_masked, SLIPGREASE_REPLY_FORM_UNKNOWN, LENT(w), LENT(in), LENT(out), LENT(masks), 5, 1, form);
-    }
     CALL(encrypt, SLIPGREASE_REPLY_DONE, LENT(w), LENT(in), LENT(out));
     CALL(convert, SLIPGREASE_REPLY_DONE, LENT(out), LENT(table), 5);
     bytes("convert", table, form_1);
@@ -247,7 +146,8 @@ static void beside(void)
     CALL(sort_reply, SLIPGREASE_DATA_FAULT, SLIPGREASE_REPLY_FIELD_WRONG);
     CALL(sort_reply, SLIPGREASE_CALLER_FAULT, SLIPGREASE_REPLY_PIPES_WRONG);
     CALL(sort_reply, SLIPGREASE_DATA_FAULT, SLIPGREASE_REPLY_BITS_WRONG);
-    CALL(sort_reply, SLIPGREASE_CALLER_FAULT, SLIPGREASE_REPLY_BITS_WRONG + 1);
+    CALL(sort_reply, SLIPGREASE_CALLER_FAULT, SLIPGREASE_REPLY_OFFSET_PER_BYTE);
+    CALL(sort_reply, SLIPGREASE_CALLER_FAULT, SLIPGREASE_REPLY_OFFSET_PER_BYTE + 1);
 }
 
 int main(int count, char **words)
@@ -255,9 +155,10 @@ int main(int count, char **words)
     if (count > 1)
         spoiled = words[1];
     rack();
-    module();
-    steps();
+    masked_refusals();
+    encryption();
     decryption();
+    offset_for_each_byte();
     key_wrap();
     packets();
     forms();

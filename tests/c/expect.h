@@ -19,8 +19,8 @@ extern int faults;
 void number(const char *call, unsigned given, unsigned expected);
 void packed(const char *call, uint16_t given, unsigned reply, unsigned value);
 
-/* Bytes that should have these hex digits; bytes that should be these; and sixteen under Mask(label), which uncovered should have
-   the digits. */
+/* Bytes that should have these hex digits; bytes that should be these; and sixteen under M(label), M(label + 1) .., which uncovered
+   should have the digits. */
 void bytes(const char *call, const uint8_t *given, const char *expected);
 void alike(const char *call, const uint8_t *given, const uint8_t *expected, size_t length);
 void under(const char *call, const uint8_t *given, size_t label, const char *expected);
@@ -44,8 +44,8 @@ struct buffer {
 
 /* What calls are lent; each takes its own part of it. */
 struct lent {
-    struct buffer schedule, input, output, masks, record, key_data, wrapped, packet, packet_out, pipes;
-    uint8_t offset, step;
+    struct buffer schedule, input, output, masks, offsets, record, key_data, wrapped, packet, packet_out, pipes;
+    uint8_t offset, step, form;
     bool odd;
 };
 
@@ -62,14 +62,37 @@ unsigned touched(const uint8_t *buffer, size_t length);
 struct call {
     const char *name;
     uint8_t (*answer)(const struct lent *);
-    uint8_t refusals[7];
+    uint8_t refusals[9];
 };
 
 /* In refusals.c: whatever the causes are, the first in the call's list is told, and nothing is written. `right` gives what has no
    cause, and `written` how many bytes that the call could have written are touched. */
 void refusals(const struct call *call, struct lent (*right)(void), unsigned (*written)(void));
 
-/* In decryption.c: the calls of masked decryption. In wrap.c: those of key wrap. In packets.c: those of packets. */
+/* In masked.c: the masked calls for one block, those that encrypt first. */
+enum masked {
+    ENCRYPT_PUBLISHED,
+    ENCRYPT_MASKED,
+    RECORD_MASKED,
+    DECRYPT_PUBLISHED,
+    DECRYPT_MASKED,
+    RECORD_MASKED_DECRYPTION,
+    MASKED_CALLS
+};
+extern const struct call masked_calls[MASKED_CALLS];
+
+/* C.3's block for such a call, or the ciphertext, with the published masks, and nothing written. */
+struct lent lent_to(enum masked call, const uint8_t offsets[SLIPGREASE_BYTE_OFFSETS], uint8_t step);
+
+/* Makes a call, which should answer this. Where it is done, the block that it ends with should be C.3's, and where it is refused,
+   nothing should be written. Gives the states that it has written, if it has. */
+const uint8_t *answered(enum masked call, const struct lent *lent, uint8_t reply);
+
+/* In masked.c: what the masked calls for one block refuse. In encryption.c and decryption.c: C.3 at every offset with every step.
+   In offsets.c: an offset for each byte. In wrap.c: the calls of key wrap. In packets.c: those of packets. */
+void masked_refusals(void);
+void encryption(void);
 void decryption(void);
+void offset_for_each_byte(void);
 void key_wrap(void);
 void packets(void);

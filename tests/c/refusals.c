@@ -18,6 +18,8 @@ static struct buffer *about(struct lent *lent, uint8_t refusal)
         return &lent->output;
     case SLIPGREASE_REPLY_MASKS_LENGTH:
         return &lent->masks;
+    case SLIPGREASE_REPLY_OFFSET_PER_BYTE:
+        return &lent->offsets;
     case SLIPGREASE_REPLY_RECORD_LENGTH:
         return &lent->record;
     case SLIPGREASE_REPLY_KEY_DATA_LENGTH:
@@ -49,15 +51,26 @@ static void spoil_bits(uint8_t *packet, enum way way)
     packet[4] = lengths[way];
 }
 
+/* The one offset, or that of a byte. */
+static void spoil_offset(struct lent *lent, enum way way)
+{
+    static const uint8_t above[WAYS] = {255, 17, 16}, places[WAYS] = {0, 7, 15};
+    lent->offset = above[way];
+    if (lent->offsets.bytes != NULL)
+        lent->offsets.bytes[places[way]] = above[way];
+}
+
 static void spoil(struct lent *lent, uint8_t refusal, enum way way)
 {
-    static const uint8_t offsets[WAYS] = {255, 17, 16}, steps[WAYS] = {0, 3, 16}, damaged[WAYS] = {0, 7, 23};
+    static const uint8_t steps[WAYS] = {0, 3, 16}, forms[WAYS] = {1, 2, 255}, damaged[WAYS] = {0, 7, 23};
     static const uint8_t syncs[WAYS] = {0x00, 0x46, 0xc7};
     struct buffer *buffer = about(lent, refusal);
     if (refusal == SLIPGREASE_REPLY_OFFSET_RANGE)
-        lent->offset = offsets[way];
+        spoil_offset(lent, way);
     else if (refusal == SLIPGREASE_REPLY_STEP_WRONG)
         lent->step = steps[way];
+    else if (refusal == SLIPGREASE_REPLY_FORM_UNKNOWN)
+        lent->form = forms[way];
     else if (refusal == SLIPGREASE_REPLY_INTEGRITY)
         lent->wrapped.bytes[damaged[way]] ^= 1;
     else if (refusal == SLIPGREASE_REPLY_SYNC_LOST)

@@ -12,7 +12,9 @@
 #include <ucontext.h>
 
 static uint8_t key[SLIPGREASE_KEY_BYTES], schedule[SLIPGREASE_SCHEDULE_BYTES], block[SLIPGREASE_BLOCK_BYTES];
-static uint8_t made[SLIPGREASE_BLOCKS_MAX * SLIPGREASE_BLOCK_BYTES], blocks[sizeof made], offsets[SLIPGREASE_BLOCKS_MAX];
+static uint8_t made[SLIPGREASE_BLOCKS_MAX * SLIPGREASE_BLOCK_BYTES], blocks[sizeof made], of_blocks[SLIPGREASE_BLOCKS_MAX];
+/* All 0, which are not those of one offset: so their constants are worked out. */
+static uint8_t offsets[SLIPGREASE_BYTE_OFFSETS];
 static uint8_t output[SLIPGREASE_BLOCK_BYTES], masks[SLIPGREASE_MASKS_BYTES], sheet[SLIPGREASE_SHEET_2_BYTES];
 static uint8_t record[SLIPGREASE_RECORD_BYTES], back[SLIPGREASE_DECRYPTION_RECORD_BYTES];
 static uint8_t data[SLIPGREASE_KEY_DATA_MAX], wrapped[sizeof data + SLIPGREASE_WRAP_EXTRA], damaged[sizeof wrapped];
@@ -26,16 +28,16 @@ static uint8_t packet[SLIPGREASE_PACKET_BYTES], scrambled[sizeof packet], copy[s
     X(encrypt, , LENT(schedule), LENT(block), LENT(output)) \
     X(decrypt, , LENT(schedule), LENT(block), LENT(output)) \
     X(record_plain, , LENT(schedule), LENT(block), LENT(record)) \
-    X(encrypt_published, , LENT(schedule), LENT(block), LENT(output), 3, 5, 0) \
-    X(encrypt_published, _with_step_1, LENT(schedule), LENT(block), LENT(output), 3, 1, 0) \
-    X(encrypt_blocks, , LENT(schedule), LENT(blocks), LENT(made), LENT(offsets), 5, 0) \
-    X(encrypt_blocks, _with_step_1, LENT(schedule), LENT(blocks), LENT(made), LENT(offsets), 1, 0) \
-    X(encrypt_masked, , LENT(schedule), LENT(block), LENT(output), LENT(masks), 3, 5, 0) \
-    X(record_masked, , LENT(schedule), LENT(block), LENT(masks), 3, 5, LENT(record)) \
-    X(decrypt_published, , LENT(schedule), LENT(block), LENT(output), 3, 5) \
-    X(decrypt_published, _with_step_1, LENT(schedule), LENT(block), LENT(output), 3, 1) \
-    X(decrypt_masked, , LENT(schedule), LENT(block), LENT(output), LENT(masks), 3, 5) \
-    X(record_masked_decryption, , LENT(schedule), LENT(block), LENT(masks), 3, 5, LENT(back)) \
+    X(encrypt_published, , LENT(schedule), LENT(block), LENT(output), LENT(offsets), 5, 0) \
+    X(encrypt_published, _with_step_1, LENT(schedule), LENT(block), LENT(output), LENT(offsets), 1, 0) \
+    X(encrypt_blocks, , LENT(schedule), LENT(blocks), LENT(made), LENT(of_blocks), 5, 0) \
+    X(encrypt_blocks, _with_step_1, LENT(schedule), LENT(blocks), LENT(made), LENT(of_blocks), 1, 0) \
+    X(encrypt_masked, , LENT(schedule), LENT(block), LENT(output), LENT(masks), LENT(offsets), 5, 0) \
+    X(record_masked, , LENT(schedule), LENT(block), LENT(masks), LENT(offsets), 5, LENT(record)) \
+    X(decrypt_published, , LENT(schedule), LENT(block), LENT(output), LENT(offsets), 5) \
+    X(decrypt_published, _with_step_1, LENT(schedule), LENT(block), LENT(output), LENT(offsets), 1) \
+    X(decrypt_masked, , LENT(schedule), LENT(block), LENT(output), LENT(masks), LENT(offsets), 5) \
+    X(record_masked_decryption, , LENT(schedule), LENT(block), LENT(masks), LENT(offsets), 5, LENT(back)) \
     X(read_sheet, , LENT(sheet), LENT(masks)) \
     X(write_sheet, , LENT(masks), 5, LENT(sheet)) \
     X(wrap, , LENT(schedule), LENT(data), LENT(wrapped)) \

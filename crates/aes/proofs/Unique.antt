@@ -65,8 +65,8 @@ entry-unique κs args exit x y p q = p ∙ sym q
 
 -- the same for a call that writes a lent buffer: neither two results nor two contents of the buffer
 abbrev pub UniqueWriting :
-    {K : Type 0} {Args Result Exit : K → Type 0} → ((κs : K) → Args κs → Result κs → Exit κs → Type 0) → ((κs : K) → Exit κs → List ℕ) → Type 0
-UniqueWriting {K} {Args} {Result} {Exit} Post buffer =
+    {K Held : Type 0} {Args Result Exit : K → Type 0} → ((κs : K) → Args κs → Result κs → Exit κs → Type 0) → ((κs : K) → Exit κs → Held) → Type 0
+UniqueWriting {K} {Held} {Args} {Result} {Exit} Post buffer =
     (κs : K) (args : Args κs) (e f : Exit κs) (x y : Result κs) → Post κs args x e → Post κs args y f → (x ≡ y) × (buffer κs e ≡ buffer κs f)
 
 pub both : (x y : ℕ) (a b : List ℕ) (z : ℕ × List ℕ) → _≡_ {A = ℕ × List ℕ} (x, a) z → _≡_ {A = ℕ × List ℕ} (y, b) z → (x ≡ y) × (a ≡ b)

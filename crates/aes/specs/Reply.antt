@@ -96,6 +96,10 @@ isSheetOf step sheet = eqb (length sheet) (cond (eqb step 1) 21 22) else 11
 abbrev pub hasOffsets : List ℕ → List ℕ → Check
 hasOffsets input offsets = eqb (length offsets) (length input / 16) else 14
 
+-- an offset for each byte of a block
+abbrev pub hasByteOffsets : List ℕ → Check
+hasByteOffsets offsets = eqb (length offsets) 16 else 24
+
 -- a step is 1, or 4 to 15
 abbrev pub taken : ℕ → Bool
 taken step = (eqb step 1 || leb 4 step) && leb step 15

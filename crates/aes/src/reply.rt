@@ -48,6 +48,8 @@ pub const PIPES_WRONG: u8 = 22;
 
 pub const BITS_WRONG: u8 = 23;
 
+pub const OFFSET_PER_BYTE: u8 = 24;
+
 // A reply number and a value side by side; a refusal has value 0.
 pub struct Valued {
     pub number: u8,

@@ -1,4 +1,4 @@
-// Tables of sixteen masks, and the mask of a label.
+// Tables of sixteen masks, and the masks over a state.
 use crate::labels::Labels;
 use aes::add;
 
@@ -15,12 +15,15 @@ pub fn unfit(block: [u8; 16]) -> [u8; 16] {
     r
 }
 
-// Mask(label).
-pub fn mask(table: [u8; 16], label: usize) -> [u8; 16] {
+// Over the bytes of a state, so many rounds on.
+pub fn mask(table: [u8; 16], labels: Labels, rounds: usize) -> [u8; 16] {
+    let spread = labels.spread as usize;
+    let mut label = labels.after(rounds) % 16;
     let mut r = [0u8; 16];
     let mut i = 0;
     while i < 16 {
-        r[i] = table[(label % 16 + i) % 16];
+        r[i] = table[label];
+        label = (label + spread) % 16;
         i += 1;
     }
     r
@@ -28,6 +31,10 @@ pub fn mask(table: [u8; 16], label: usize) -> [u8; 16] {
 
 // What an early module stored of a cipher block, in form 1 with the published masks: the mask of its last label is still over it.
 pub fn stored(offset: u8, cipher: [u8; 16]) -> [u8; 16] {
-    let labels = Labels { offset, step: 1 };
-    add(cipher, mask(published(), labels.after(14)))
+    let labels = Labels {
+        offset,
+        step: 1,
+        spread: 1,
+    };
+    add(cipher, mask(published(), labels, 14))
 }

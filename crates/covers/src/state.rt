@@ -17,8 +17,8 @@ pub fn over_state(way: Way, table: [u8; 16], labels: Labels, n: usize) -> [u8; 1
 // States come in fives: the covered block, or what a compensation leaves, then after a key, boxes, ShiftRows and MixColumns. Boxes
 // lead to the next label. The last five end with the last key's state, which is not mixed, and the uncovered block follows.
 fn over_encryption(table: [u8; 16], labels: Labels, n: usize) -> [u8; 16] {
-    let own = mask(table, labels.after(n / 5));
-    let next = mask(table, labels.after(n / 5 + 1));
+    let own = mask(table, labels, n / 5);
+    let next = mask(table, labels, n / 5 + 1);
     if n == 69 {
         return shift_rows(next);
     }
@@ -36,8 +36,8 @@ fn over_encryption(table: [u8; 16], labels: Labels, n: usize) -> [u8; 16] {
 // States come in sixes: after InvMixColumns and its correction, InvShiftRows and its correction, boxes and a key. Boxes lead to the
 // next label. The first two are the covered block and the first key's state; the uncovered block follows the last six.
 fn over_decryption(table: [u8; 16], labels: Labels, n: usize) -> [u8; 16] {
-    let own = mask(table, labels.after(n / 6));
-    let next = mask(table, labels.after(n / 6 + 1));
+    let own = mask(table, labels, n / 6);
+    let next = mask(table, labels, n / 6 + 1);
     if n == 0 {
         return own;
     }

@@ -1,8 +1,8 @@
 // What a line asks of a masked call, which is made again and again with other labels.
 ghost use mathlib.Core.Path.{_≡_};
 ghost use Prim.Native.Nat.{_-_};
-use crate::labels::ALL;
 use crate::labels::Labels;
+use crate::labels::RECORDS;
 use crate::labels::turned;
 use crate::mask::unfit;
 use aes::reply::DONE;
@@ -12,7 +12,7 @@ use lines::vector;
 use lines::vector::Way;
 use lines::vector::same_block;
 
-// A block, with all labels; the block at the end of a thousand calls, each on what the one before wrote; or a reply, the second
+// A block, with all labels, and with as many other records; the block at the end of a thousand calls, each on what the one before wrote; or a reply, the second
 // number, to a step, the first, at all offsets.
 pub enum Asked {
     Block,
@@ -45,7 +45,7 @@ impl Trial {
         let mut schedule = [0u8; 240];
         aes::expand_key(&key, &mut schedule);
         let left = match asked {
-            Asked::Block => ALL,
+            Asked::Block => RECORDS,
             Asked::Chain => 1000,
             Asked::Reply(_, _) => 16,
         };
@@ -93,6 +93,7 @@ impl Trial {
             Asked::Reply(step, _) => Labels {
                 offset: (self.left % 16) as u8,
                 step,
+                spread: 1,
             },
             _ => turned(self.left),
         }

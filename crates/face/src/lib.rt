@@ -48,13 +48,13 @@ pub extern "C" fn slipgrease_encrypt_published(
     schedule: &[u8],
     input: &[u8],
     output: &mut [u8],
-    offset: u8,
+    offsets: &[u8],
     step: u8,
     form: u8,
 ) -> u8
-    ensures { λ r. ⌜ (r, now (output .exit)) ≡ encryptPublishedOf (now (schedule .entry)) (now (input .entry)) (now (output .entry)) offset step form ⌝ }
+    ensures { λ r. ⌜ (r, now (output .exit)) ≡ encryptPublishedOf (now (schedule .entry)) (now (input .entry)) (now (output .entry)) (now (offsets .entry)) step form ⌝ }
 {
-    masked::encrypt_published(schedule, input, output, offset, step, form)
+    masked::encrypt_published(schedule, input, output, offsets, step, form)
 }
 
 #[no_mangle]
@@ -77,13 +77,13 @@ pub extern "C" fn slipgrease_encrypt_masked(
     input: &[u8],
     output: &mut [u8],
     masks: &[u8],
-    offset: u8,
+    offsets: &[u8],
     step: u8,
     form: u8,
 ) -> u8
-    ensures { λ r. ⌜ (r, now (output .exit)) ≡ encryptMaskedOf (now (schedule .entry)) (now (input .entry)) (now (output .entry)) (now (masks .entry)) offset step form ⌝ }
+    ensures { λ r. ⌜ (r, now (output .exit)) ≡ encryptMaskedOf (now (schedule .entry)) (now (input .entry)) (now (output .entry)) (now (masks .entry)) (now (offsets .entry)) step form ⌝ }
 {
-    masked::encrypt_masked(schedule, input, output, masks, offset, step, form)
+    masked::encrypt_masked(schedule, input, output, masks, offsets, step, form)
 }
 
 #[no_mangle]
@@ -91,13 +91,13 @@ pub extern "C" fn slipgrease_record_masked(
     schedule: &[u8],
     input: &[u8],
     masks: &[u8],
-    offset: u8,
+    offsets: &[u8],
     step: u8,
     states: &mut [u8],
 ) -> u8
-    ensures { λ r. ⌜ (r, now (states .exit)) ≡ recordMaskedOf (now (schedule .entry)) (now (input .entry)) (now (masks .entry)) offset step (now (states .entry)) ⌝ }
+    ensures { λ r. ⌜ (r, now (states .exit)) ≡ recordMaskedOf (now (schedule .entry)) (now (input .entry)) (now (masks .entry)) (now (offsets .entry)) step (now (states .entry)) ⌝ }
 {
-    masked::record_masked(schedule, input, masks, offset, step, states)
+    masked::record_masked(schedule, input, masks, offsets, step, states)
 }
 
 #[no_mangle]
@@ -105,12 +105,12 @@ pub extern "C" fn slipgrease_decrypt_published(
     schedule: &[u8],
     input: &[u8],
     output: &mut [u8],
-    offset: u8,
+    offsets: &[u8],
     step: u8,
 ) -> u8
-    ensures { λ r. ⌜ (r, now (output .exit)) ≡ decryptPublishedOf (now (schedule .entry)) (now (input .entry)) (now (output .entry)) offset step ⌝ }
+    ensures { λ r. ⌜ (r, now (output .exit)) ≡ decryptPublishedOf (now (schedule .entry)) (now (input .entry)) (now (output .entry)) (now (offsets .entry)) step ⌝ }
 {
-    masked::decrypt_published(schedule, input, output, offset, step)
+    masked::decrypt_published(schedule, input, output, offsets, step)
 }
 
 #[no_mangle]
@@ -119,12 +119,12 @@ pub extern "C" fn slipgrease_decrypt_masked(
     input: &[u8],
     output: &mut [u8],
     masks: &[u8],
-    offset: u8,
+    offsets: &[u8],
     step: u8,
 ) -> u8
-    ensures { λ r. ⌜ (r, now (output .exit)) ≡ decryptMaskedOf (now (schedule .entry)) (now (input .entry)) (now (output .entry)) (now (masks .entry)) offset step ⌝ }
+    ensures { λ r. ⌜ (r, now (output .exit)) ≡ decryptMaskedOf (now (schedule .entry)) (now (input .entry)) (now (output .entry)) (now (masks .entry)) (now (offsets .entry)) step ⌝ }
 {
-    masked::decrypt_masked(schedule, input, output, masks, offset, step)
+    masked::decrypt_masked(schedule, input, output, masks, offsets, step)
 }
 
 #[no_mangle]
@@ -132,13 +132,13 @@ pub extern "C" fn slipgrease_record_masked_decryption(
     schedule: &[u8],
     input: &[u8],
     masks: &[u8],
-    offset: u8,
+    offsets: &[u8],
     step: u8,
     states: &mut [u8],
 ) -> u8
-    ensures { λ r. ⌜ (r, now (states .exit)) ≡ recordMaskedDecryptionOf (now (schedule .entry)) (now (input .entry)) (now (masks .entry)) offset step (now (states .entry)) ⌝ }
+    ensures { λ r. ⌜ (r, now (states .exit)) ≡ recordMaskedDecryptionOf (now (schedule .entry)) (now (input .entry)) (now (masks .entry)) (now (offsets .entry)) step (now (states .entry)) ⌝ }
 {
-    masked::record_masked_decryption(schedule, input, masks, offset, step, states)
+    masked::record_masked_decryption(schedule, input, masks, offsets, step, states)
 }
 
 #[no_mangle]

@@ -1,1 +1,2 @@
 pub mod Sixteen
+pub mod Started

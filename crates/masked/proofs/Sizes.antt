@@ -1,34 +1,15 @@
--- A masked run ends in sixteen bytes, each way.
+-- The two of one offset end in sixteen bytes.
 -- Assumes nothing.
-use mathlib.Core.Path.{_≡_, refl}
-use mathlib.Core.List.{List, _∷_}
-use Prim.Native.Nat.{ℕ, _-_}
+use mathlib.Core.Path.{_≡_}
+use mathlib.Core.List.{List}
+use Prim.Native.Nat.{ℕ}
 use lib.ListN.{length}
-use Rattle.aes.specs.State.{addRoundKey}
-use Rattle.aes.specs.Record.{final, block, wholes, points, run, last}
-use Rattle.aes.proofs.Written.{run-append, last-append}
-use Rattle.masks.specs.Mask.{published}
-use Rattle.runs.specs.Run.{covered, maskedRecord, maskedCipher}
-use Rattle.runs.specs.Back.{block as first, keyed, sixes, closing, backPoints, uncovering, maskedBackRecord, maskedInvCipher}
+use Rattle.masks.specs.Mask.{published, one}
+use Rattle.starts.proofs.Sizes.{masked-size, opened-size}
 use Rattle.masked.specs.Calls.{sealedOne, openedOne}
 
-pub masked-size : (nr : ℕ) (M : List ℕ) (o d : ℕ) (w b : List ℕ) → length (maskedCipher nr M o d w b) ≡ 16
-unfolding maskedCipher maskedRecord points run last covered addRoundKey
-masked-size nr M o d w b =
-    let f = covered M o d w in
-    let ps = block ∷ wholes (nr - 1) in
-    rw (run-append f ps (final (nr - 1)) b, last-append b (run f b ps) (run f (last b (run f b ps)) (final (nr - 1)))) refl
-
-pub opened-size : (nr : ℕ) (M : List ℕ) (o d : ℕ) (w b : List ℕ) → length (maskedInvCipher nr M o d w b) ≡ 16
-unfolding maskedInvCipher maskedBackRecord backPoints run last uncovering addRoundKey
-opened-size nr M o d w b =
-    let f = uncovering nr M o d w in
-    let ps = first ∷ keyed 0 ∷ sixes (nr - 1) in
-    rw (run-append f ps (closing (nr - 1)) b, last-append b (run f b ps) (run f (last b (run f b ps)) (closing (nr - 1)))) refl
-
--- so do the two of one offset
 pub sealed-one-size : (o : ℕ) (w b : List ℕ) → length (sealedOne o w b) ≡ 16
-sealed-one-size o w b = masked-size 14 published o 1 w b
+sealed-one-size o w b = masked-size 14 published (one o) 1 w b
 
 pub opened-one-size : (o : ℕ) (w b : List ℕ) → length (openedOne o w b) ≡ 16
-opened-one-size o w b = opened-size 14 published o 1 w b
+opened-one-size o w b = opened-size 14 published (one o) 1 w b

@@ -6,24 +6,24 @@ use lib.Dec.{eqb}
 use lib.ListN.{length, take, drop}
 use Rattle.aes.specs.State.{at}
 use Rattle.aes.specs.Record.{bytes}
-use Rattle.aes.specs.Reply.{Check, _else_, answer, isSchedule, isFullSchedule, isInput, isOutput, isMaskTable, isOffset, isStep, isForm, areBlocks, isAsLong, hasOffsets, areOffsets}
-use Rattle.masks.specs.Mask.{published, inRow}
+use Rattle.aes.specs.Reply.{Check, _else_, answer, isSchedule, isFullSchedule, isInput, isOutput, isMaskTable, isOffset, hasByteOffsets, isStep, isForm, areBlocks, isAsLong, hasOffsets, areOffsets}
+use Rattle.masks.specs.Mask.{published, one, inRow}
 use Rattle.runs.specs.Run.{maskedRecord, maskedCipher}
 use Rattle.runs.specs.Back.{maskedBackRecord, maskedInvCipher}
 
 -- what an encryption with any masks checks
-abbrev pub checks : List ℕ → List ℕ → List ℕ → List ℕ → ℕ → ℕ → ℕ → List Check
-checks schedule input output masks offset step form =
-    isSchedule schedule ∷ isInput input ∷ isOutput output ∷ isMaskTable masks ∷ isOffset offset ∷ isStep step ∷ isForm form ∷ []
+abbrev pub checks : List ℕ → List ℕ → List ℕ → List ℕ → List ℕ → ℕ → ℕ → List Check
+checks schedule input output masks offsets step form =
+    isSchedule schedule ∷ isInput input ∷ isOutput output ∷ isMaskTable masks ∷ hasByteOffsets offsets ∷ areOffsets offsets ∷ isStep step ∷ isForm form ∷ []
 
 -- and one with the published masks
-abbrev pub publishedChecks : List ℕ → List ℕ → List ℕ → ℕ → ℕ → ℕ → List Check
-publishedChecks schedule input output offset step form =
-    isSchedule schedule ∷ isInput input ∷ isOutput output ∷ isOffset offset ∷ isStep step ∷ isForm form ∷ []
+abbrev pub publishedChecks : List ℕ → List ℕ → List ℕ → List ℕ → ℕ → ℕ → List Check
+publishedChecks schedule input output offsets step form =
+    isSchedule schedule ∷ isInput input ∷ isOutput output ∷ hasByteOffsets offsets ∷ areOffsets offsets ∷ isStep step ∷ isForm form ∷ []
 
-abbrev pub encryptPublishedOf : List ℕ → List ℕ → List ℕ → ℕ → ℕ → ℕ → ℕ × List ℕ
-encryptPublishedOf schedule input output offset step form =
-    answer (publishedChecks schedule input output offset step form) output (maskedCipher 14 published offset step schedule input)
+abbrev pub encryptPublishedOf : List ℕ → List ℕ → List ℕ → List ℕ → ℕ → ℕ → ℕ × List ℕ
+encryptPublishedOf schedule input output offsets step form =
+    answer (publishedChecks schedule input output offsets step form) output (maskedCipher 14 published offsets step schedule input)
 
 -- block k of many
 abbrev pub blockAt : ℕ → List ℕ → List ℕ
@@ -33,56 +33,53 @@ abbrev pub blocksChecks : List ℕ → List ℕ → List ℕ → List ℕ → �
 blocksChecks schedule input output offsets step form =
     isSchedule schedule ∷ areBlocks input ∷ isAsLong input output ∷ hasOffsets input offsets ∷ areOffsets offsets ∷ isStep step ∷ isForm form ∷ []
 
--- it alone, with the published masks at its own offset
-abbrev pub inTurn : List ℕ → List ℕ → List ℕ → ℕ → ℕ → List ℕ
-inTurn schedule input offsets step k = maskedCipher 14 published (at offsets k) step schedule (blockAt k input)
-
 -- block by block, what encrypt_published writes
 abbrev pub encryptBlocksOf : List ℕ → List ℕ → List ℕ → List ℕ → ℕ → ℕ → ℕ × List ℕ
 encryptBlocksOf schedule input output offsets step form =
     answer (blocksChecks schedule input output offsets step form) output
-    (inRow (λ k. encryptPublishedOf schedule (blockAt k input) (blockAt k output) (at offsets k) step form .1) (length input / 16))
+    (inRow (λ k. encryptPublishedOf schedule (blockAt k input) (blockAt k output) (one (at offsets k)) step form .1) (length input / 16))
 
-abbrev pub encryptMaskedOf : List ℕ → List ℕ → List ℕ → List ℕ → ℕ → ℕ → ℕ → ℕ × List ℕ
-encryptMaskedOf schedule input output masks offset step form =
-    answer (checks schedule input output masks offset step form) output (maskedCipher 14 masks offset step schedule input)
+abbrev pub encryptMaskedOf : List ℕ → List ℕ → List ℕ → List ℕ → List ℕ → ℕ → ℕ → ℕ × List ℕ
+encryptMaskedOf schedule input output masks offsets step form =
+    answer (checks schedule input output masks offsets step form) output (maskedCipher 14 masks offsets step schedule input)
 
 -- what a record of so many bytes checks
-abbrev pub recordChecks : ℕ → List ℕ → List ℕ → List ℕ → ℕ → ℕ → List ℕ → List Check
-recordChecks size schedule input masks offset step states =
-    isSchedule schedule ∷ isInput input ∷ isMaskTable masks ∷ isOffset offset ∷ isStep step ∷ (eqb (length states) size else 8) ∷ []
+abbrev pub recordChecks : ℕ → List ℕ → List ℕ → List ℕ → List ℕ → ℕ → List ℕ → List Check
+recordChecks size schedule input masks offsets step states =
+    isSchedule schedule ∷ isInput input ∷ isMaskTable masks ∷ hasByteOffsets offsets ∷ areOffsets offsets ∷ isStep step ∷ (eqb (length states) size else 8) ∷ []
 
-abbrev pub recordMaskedOf : List ℕ → List ℕ → List ℕ → ℕ → ℕ → List ℕ → ℕ × List ℕ
-recordMaskedOf schedule input masks offset step states =
-    answer (recordChecks 1136 schedule input masks offset step states) states (bytes (maskedRecord 14 masks offset step schedule input))
+abbrev pub recordMaskedOf : List ℕ → List ℕ → List ℕ → List ℕ → ℕ → List ℕ → ℕ × List ℕ
+recordMaskedOf schedule input masks offsets step states =
+    answer (recordChecks 1136 schedule input masks offsets step states) states (bytes (maskedRecord 14 masks offsets step schedule input))
 
 -- what a decryption with any masks checks, and one with the published masks
-abbrev pub backChecks : List ℕ → List ℕ → List ℕ → List ℕ → ℕ → ℕ → List Check
-backChecks schedule input output masks offset step =
-    isSchedule schedule ∷ isInput input ∷ isOutput output ∷ isMaskTable masks ∷ isOffset offset ∷ isStep step ∷ []
+abbrev pub backChecks : List ℕ → List ℕ → List ℕ → List ℕ → List ℕ → ℕ → List Check
+backChecks schedule input output masks offsets step =
+    isSchedule schedule ∷ isInput input ∷ isOutput output ∷ isMaskTable masks ∷ hasByteOffsets offsets ∷ areOffsets offsets ∷ isStep step ∷ []
 
-abbrev pub publishedBackChecks : List ℕ → List ℕ → List ℕ → ℕ → ℕ → List Check
-publishedBackChecks schedule input output offset step = isSchedule schedule ∷ isInput input ∷ isOutput output ∷ isOffset offset ∷ isStep step ∷ []
+abbrev pub publishedBackChecks : List ℕ → List ℕ → List ℕ → List ℕ → ℕ → List Check
+publishedBackChecks schedule input output offsets step =
+    isSchedule schedule ∷ isInput input ∷ isOutput output ∷ hasByteOffsets offsets ∷ areOffsets offsets ∷ isStep step ∷ []
 
-abbrev pub decryptPublishedOf : List ℕ → List ℕ → List ℕ → ℕ → ℕ → ℕ × List ℕ
-decryptPublishedOf schedule input output offset step =
-    answer (publishedBackChecks schedule input output offset step) output (maskedInvCipher 14 published offset step schedule input)
+abbrev pub decryptPublishedOf : List ℕ → List ℕ → List ℕ → List ℕ → ℕ → ℕ × List ℕ
+decryptPublishedOf schedule input output offsets step =
+    answer (publishedBackChecks schedule input output offsets step) output (maskedInvCipher 14 published offsets step schedule input)
 
-abbrev pub decryptMaskedOf : List ℕ → List ℕ → List ℕ → List ℕ → ℕ → ℕ → ℕ × List ℕ
-decryptMaskedOf schedule input output masks offset step =
-    answer (backChecks schedule input output masks offset step) output (maskedInvCipher 14 masks offset step schedule input)
+abbrev pub decryptMaskedOf : List ℕ → List ℕ → List ℕ → List ℕ → List ℕ → ℕ → ℕ × List ℕ
+decryptMaskedOf schedule input output masks offsets step =
+    answer (backChecks schedule input output masks offsets step) output (maskedInvCipher 14 masks offsets step schedule input)
 
 -- 85 states
-abbrev pub recordMaskedDecryptionOf : List ℕ → List ℕ → List ℕ → ℕ → ℕ → List ℕ → ℕ × List ℕ
-recordMaskedDecryptionOf schedule input masks offset step states =
-    answer (recordChecks 1360 schedule input masks offset step states) states (bytes (maskedBackRecord 14 masks offset step schedule input))
+abbrev pub recordMaskedDecryptionOf : List ℕ → List ℕ → List ℕ → List ℕ → ℕ → List ℕ → ℕ × List ℕ
+recordMaskedDecryptionOf schedule input masks offsets step states =
+    answer (recordChecks 1360 schedule input masks offsets step states) states (bytes (maskedBackRecord 14 masks offsets step schedule input))
 
--- One block for callers that keep one offset, with the published masks and step 1, whatever the calls above come to take.
+-- One block for callers that keep one offset, with the published masks and step 1.
 abbrev pub sealedOne : ℕ → List ℕ → List ℕ → List ℕ
-sealedOne offset schedule input = maskedCipher 14 published offset 1 schedule input
+sealedOne offset schedule input = maskedCipher 14 published (one offset) 1 schedule input
 
 abbrev pub openedOne : ℕ → List ℕ → List ℕ → List ℕ
-openedOne offset schedule input = maskedInvCipher 14 published offset 1 schedule input
+openedOne offset schedule input = maskedInvCipher 14 published (one offset) 1 schedule input
 
 abbrev pub oneChecks : List ℕ → List ℕ → List ℕ → ℕ → List Check
 oneChecks schedule input output offset = isFullSchedule schedule ∷ isInput input ∷ isOutput output ∷ isOffset offset ∷ []

@@ -28,14 +28,14 @@ fn answered(way: Way, place: usize, trial: Trial) -> Trial
     let masks = trial.masks;
     let block = trial.block;
     let labels = trial.labels();
-    let offset = labels.offset;
+    let offsets = labels.record();
     let step = labels.step;
     let mut room = [0u8; 1360];
     let n = length(way);
     let record = &mut room[0..n];
     let reply = match way {
-        Way::Encrypt => record_masked(&schedule, &block, &masks, offset, step, record),
-        Way::Decrypt => record_masked_decryption(&schedule, &block, &masks, offset, step, record),
+        Way::Encrypt => record_masked(&schedule, &block, &masks, &offsets, step, record),
+        Way::Decrypt => record_masked_decryption(&schedule, &block, &masks, &offsets, step, record),
     };
     let mask = over_state(way, masks, labels, place);
     trial.after(reply, aes::add(state_at(record, place), mask))

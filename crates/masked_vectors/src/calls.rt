@@ -23,12 +23,12 @@ fn answered(call: Call, trial: Trial) -> Trial
     let masks = trial.masks;
     let block = trial.block;
     let labels = trial.labels();
-    let offset = labels.offset;
+    let offsets = labels.record();
     let step = labels.step;
     let mut output = [0xa5u8; 16];
     let reply = match call {
-        Call::Published => encrypt_published(&schedule, &block, &mut output, offset, step, 0),
-        Call::Masked => encrypt_masked(&schedule, &block, &mut output, &masks, offset, step, 0),
+        Call::Published => encrypt_published(&schedule, &block, &mut output, &offsets, step, 0),
+        Call::Masked => encrypt_masked(&schedule, &block, &mut output, &masks, &offsets, step, 0),
         Call::Many => many::answer(&schedule, &[0; 256], labels, &mut [0; 256]),
     };
     trial.after(reply, output)

@@ -12,8 +12,9 @@ use Rattle.aes.proofs.Listed.{table-at, table-length, table-same}
 use Rattle.masks.specs.declared.constants.Kind.{Kind}
 use Rattle.masks.specs.declared.constants.Kind.the-variants.{Compensation, AfterRows, AfterColumns}
 use Rattle.masks.specs.Kinds.{constantOf}
-use Rattle.masks.specs.Mask.{_⊞_, label, mask, compensation, afterRows, afterColumns, inRow, constants}
+use Rattle.masks.specs.Mask.{_⊞_, one, label, mask, compensation, afterRows, afterColumns, inRow, constants}
 use Rattle.masks.proofs.Row.{row-at, row-size}
+use Rattle.masks.proofs.Counted.{one-at}
 use Rattle.masks.proofs.Stored.{Sized, compensation-sized, rows-sized, columns-sized}
 
 unfoldable pub turned : List ℕ → List ℕ
@@ -23,11 +24,16 @@ turned-at : (s : List ℕ) (i : ℕ) → i < 16 → at (turned s) i ≡ at s ((i
 unfolding turned table
 turned-at s i lt = table-at (λ i. at s ((i + 4) % 16)) 16 i lt
 
-turned-mask : (M : List ℕ) (o k : ℕ) → mask M o (k + 4) ≡ turned (mask M o k)
+turned-mask : (M : List ℕ) (o k : ℕ) → mask M (one o) (k + 4) ≡ turned (mask M (one o) k)
 unfolding mask turned table
 turned-mask M o k =
-    table-same (λ i. at M (label o (k + 4) i)) (λ i. at (state (λ i. at M (label o k i))) ((i + 4) % 16)) 16
-    (λ i h. ap (at M) (omega arith) ∙ sym (table-at (λ i. at M (label o k i)) 16 ((i + 4) % 16) (omega arith)))
+    table-same (λ i. at M (label (one o) (k + 4) i)) (λ i. at (state (λ i. at M (label (one o) k i))) ((i + 4) % 16)) 16
+    (λ i h.
+    let j : ℕ = (i + 4) % 16 in
+    let lt : j < 16 = omega arith in
+    let same : ((o + i) % 16 + (k + 4)) % 16 ≡ ((o + j) % 16 + k) % 16 = omega arith in
+    ap (at M) (ap (λ (a : ℕ). (a + (k + 4)) % 16) (one-at o i h) ∙ same ∙ ap (λ (a : ℕ). (a + k) % 16) (sym (one-at o j lt)))
+    ∙ sym (table-at (λ i. at M (label (one o) k i)) 16 j lt))
 
 turned-shift : (s : List ℕ) → shiftRows (turned s) ≡ turned (shiftRows s)
 unfolding shiftRows turned
@@ -89,32 +95,41 @@ row-bytes g h n =
     let e : y ≡ 16 * (y / 16) + y % 16 = omega arith in
     ap (at (inRow g n)) e ∙ row-at g 16 h n (y / 16) (y % 16) (omega (arith, below)) (omega arith) ∙ sym (table-at (rowByte g) (16 * n) y below))
 
--- the constants of one kind
-module _ (k : Kind) (M : List ℕ) where
+-- a byte of the one at place n
+pub row-byte : (g : ℕ → List ℕ) (n i : ℕ) → i < 16 → at (g n) i ≡ rowByte g (16 * n + i)
+row-byte g n i h = ap₂ (λ (j k : ℕ). at (g j) k) (omega (arith, h)) (omega (arith, h))
+
+-- the constants of one kind at any offsets
+module _ (k : Kind) (M v : List ℕ) where
   abbrev pub constant : ℕ → List ℕ
-  constant n = constantOf k (mask M 0 n)
+  constant n = constantOf k (mask M v n)
 
   sized : (n : ℕ) → length (constant n) ≡ 16
-  sized n = kind-sized k (mask M 0 n)
+  sized n = kind-sized k (mask M v n)
 
   pub first-four : inRow constant 4 ≡ table (rowByte constant) 64
   first-four = row-bytes constant sized 4
 
-  pub all-sixteen : constants (constantOf k) M ≡ table (rowByte constant) 256
+  pub all-sixteen : constants (constantOf k) M v ≡ table (rowByte constant) 256
   unfolding constants
   all-sixteen = row-bytes constant sized 16
 
-  constant-turned : (n : ℕ) → constant (n + 4) ≡ turned (constant n)
-  constant-turned n = ap (constantOf k) (turned-mask M 0 n) ∙ kind-turning k (mask M 0 n)
+-- and at the record of offset 0
+module _ (k : Kind) (M : List ℕ) where
+  abbrev pub turning : ℕ → List ℕ
+  turning = constant k M (one 0)
 
-  column : (o i x y : ℕ) → i < 16 → x ≡ 16 * o + (i + 4) % 16 → y ≡ 16 * (o + 4) + i → rowByte constant x ≡ rowByte constant y
+  constant-turned : (n : ℕ) → turning (n + 4) ≡ turned (turning n)
+  constant-turned n = ap (constantOf k) (turned-mask M 0 n) ∙ kind-turning k (mask M (one 0) n)
+
+  column : (o i x y : ℕ) → i < 16 → x ≡ 16 * o + (i + 4) % 16 → y ≡ 16 * (o + 4) + i → rowByte turning x ≡ rowByte turning y
   column o i x y lt hx hy =
-      ap₂ at (ap constant (omega (arith, hx))) (omega (arith, hx)) ∙ sym (turned-at (constant o) i lt)
-      ∙ ap₂ at (sym (constant-turned o) ∙ ap constant (omega (arith, lt, hy))) (omega (arith, lt, hy))
+      ap₂ at (ap turning (omega (arith, hx))) (omega (arith, hx)) ∙ sym (turned-at (turning o) i lt)
+      ∙ ap₂ at (sym (constant-turned o) ∙ ap turning (omega (arith, lt, hy))) (omega (arith, lt, hy))
 
   -- row y / 16 is the one four before it, its last twelve bytes first
-  pub twelve : (y i : ℕ) → 64 ≤ y → y % 16 ≡ 0 → i < 12 → rowByte constant (y - 60 + i) ≡ rowByte constant (y + i)
+  pub twelve : (y i : ℕ) → 64 ≤ y → y % 16 ≡ 0 → i < 12 → rowByte turning (y - 60 + i) ≡ rowByte turning (y + i)
   twelve y i le m lt = column (y / 16 - 4) i (y - 60 + i) (y + i) (omega (arith, lt)) (omega (arith, le, m, lt)) (omega (arith, le, m, lt))
 
-  pub four : (y i : ℕ) → 64 ≤ y → y % 16 ≡ 0 → i < 4 → rowByte constant (y - 64 + i) ≡ rowByte constant (y + 12 + i)
+  pub four : (y i : ℕ) → 64 ≤ y → y % 16 ≡ 0 → i < 4 → rowByte turning (y - 64 + i) ≡ rowByte turning (y + 12 + i)
   four y i le m lt = column (y / 16 - 4) (12 + i) (y - 64 + i) (y + 12 + i) (omega (arith, lt)) (omega (arith, le, m, lt)) (omega (arith, le, m, lt))

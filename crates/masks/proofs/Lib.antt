@@ -1,8 +1,9 @@
 pub mod Row
+pub mod Counted
 pub mod Stored
 pub mod Columns
+pub mod Rows
 pub mod Turned
 pub mod Headed
-pub mod Counted
 pub mod Ordered
 pub mod Unique

@@ -18,9 +18,9 @@ use Rattle.aes.specs.Reply.{taken}
 use Rattle.aes.proofs.Listed.{Inverted, place-below, place-right, place-only}
 use Rattle.aes.proofs.Fill.{filled-all}
 use Rattle.aes.proofs.Below.{under}
-use Rattle.masks.specs.Mask.{published, mask}
+use Rattle.masks.specs.Mask.{published, one, mask}
 use Rattle.masks.specs.Order.{boxOrder, between}
-use Rattle.masks.proofs.Counted.{mask-on}
+use Rattle.masks.proofs.Counted.{mask-one}
 
 -- computed: a permutation of the sixteen positions
 permuted : Inverted (λ p. p) 16 (table (at boxOrder) 16)
@@ -71,18 +71,18 @@ called-all {f} {k} {r} c h = filled-all (record { room = c .room; within = lit�
     at-i i lt = let p = order-place i lt in rw (p .1) at (c .so-far (place i boxOrder) (omega arith))
 
 -- computed: with the published masks the mask between two boxes is never 00, whatever the step is that is taken
-between-test : T (below 16 (λ d. not (taken d) || below 16 (λ j. below 15 (λ k. not (eqb (between boxOrder (mask published j 0) (mask published j d) k) 0)))))
-unfolding boxOrder published mask below
+between-test : T (below 16 (λ d. not (taken d) || below 16 (λ j. below 15 (λ k. not (eqb (between boxOrder (mask published (one j) 0) (mask published (one j) d) k) 0)))))
+unfolding boxOrder published mask below table
 between-test = tt
 
 met : (a b : Bool) → T a → T (not a || b) → T b
 met true b t u = u
 met false b t u = absurd t
 
-pub lucky : (o n d k : ℕ) → T (taken d) → k < 15 → between boxOrder (mask published o n) (mask published o (n + d)) k ≡ 0 → ⊥
+pub lucky : (o n d k : ℕ) → T (taken d) → k < 15 → between boxOrder (mask published (one o) n) (mask published (one o) (n + d)) k ≡ 0 → ⊥
 lucky o n d k t h =
     let j : ℕ = (o + n) % 16 in
     let small : d ≤ 15 = lit≤ (and-yes (eqb d 1 || leb 4 d) (leb d 15) t .1) in
     let row = under _ 16 (met (taken d) _ t (under _ 16 between-test d (omega (arith, small)))) j (omega arith) in
-    let taken-is : mask published o n ≡ mask published j 0 = sym (mask-on published o n 0 ∙ ap (mask published o) (add-zero n)) in
-    rw (taken-is, sym (mask-on published o n d)) (eqb-no (under _ 15 row k h))
+    let taken-is : mask published (one o) n ≡ mask published (one j) 0 = ap (mask published (one o)) (sym (add-zero n)) ∙ mask-one published o n 0 in
+    rw (taken-is, mask-one published o n d) (eqb-no (under _ 15 row k h))

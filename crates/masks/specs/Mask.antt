@@ -3,6 +3,7 @@
 use mathlib.Core.List.{List, [], _∷_, _++_}
 use Prim.Native.Nat.{ℕ, zero, suc, _+_, _%_}
 use Rattle.aes.specs.Byte.{_⊕_, table}
+use Rattle.aes.specs.Key.{roundKey}
 use Rattle.aes.specs.State.{at, state, shiftRows, mixColumns, invShiftRows, invMixColumns, addRoundKey}
 
 -- the published masks M0 to M15
@@ -15,13 +16,20 @@ infixl 68 _⊞_
 abbrev pub _⊞_ : List ℕ → List ℕ → List ℕ
 a ⊞ b = addRoundKey a b
 
--- the label of byte i at offset o, k labels on
-abbrev pub label : ℕ → ℕ → ℕ → ℕ
-label o k i = (o + i + k) % 16
+-- a record has an offset for each byte; the record of one offset o is o, o+1 .. o+15
+abbrev pub one : ℕ → List ℕ
+one o = state (λ i. (o + i) % 16)
 
--- Mask(o+k) over the masks M: M(o+k), M(o+k+1) .. M(o+k+15) at the bytes 0 to 15
-unfoldable pub mask : List ℕ → ℕ → ℕ → List ℕ
-mask M o k = state (λ i. at M (label o k i))
+-- the label of byte i at the offsets v, k labels on, and the record of all these labels
+abbrev pub label : List ℕ → ℕ → ℕ → ℕ
+label v k i = (at v i + k) % 16
+
+abbrev pub advanced : List ℕ → ℕ → List ℕ
+advanced v k = state (label v k)
+
+-- the masks over the sixteen bytes at the offsets v, k labels on, of the masks M: where v is the record of o, Mask(o+k)
+unfoldable pub mask : List ℕ → List ℕ → ℕ → List ℕ
+mask M v k = state (λ i. at M (label v k i))
 
 -- the masks twice over, so that sixteen of them lie in a row from any label on
 abbrev pub twice : List ℕ → List ℕ
@@ -46,9 +54,17 @@ unfoldable pub inRow : (ℕ → List ℕ) → ℕ → List ℕ
 inRow f zero = []
 inRow f (suc n) = inRow f n ++ f n
 
--- the sixteen masked boxes with step d, and the sixteen constants of one kind, which depend on no step, as they are stored
+-- the masks over the sixteen bytes at the offsets v for each of sixteen labels on, in a row
+unfoldable pub coversOf : List ℕ → List ℕ → List ℕ
+coversOf M v = inRow (mask M v) 16
+
+-- the sixteen masked boxes with step d, and the sixteen constants of one kind at the offsets v, which depend on no step, in a row
 unfoldable pub maskedBoxes : (ℕ → ℕ) → List ℕ → ℕ → List ℕ
 maskedBoxes S M d = inRow (λ j. table (maskedBox S M d j) 256) 16
 
-unfoldable pub constants : (List ℕ → List ℕ) → List ℕ → List ℕ
-constants f M = inRow (λ k. f (mask M 0 k)) 16
+unfoldable pub constants : (List ℕ → List ℕ) → List ℕ → List ℕ → List ℕ
+constants f M v = inRow (λ k. f (mask M v k)) 16
+
+-- these of masks that lie there in a row, whatever their offsets are
+unfoldable pub constantsOf : (List ℕ → List ℕ) → List ℕ → List ℕ
+constantsOf f c = inRow (λ k. f (roundKey c k)) 16

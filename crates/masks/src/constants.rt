@@ -1,12 +1,15 @@
 // The published masks of document 002, and the constants that are made of masks.
 ghost use mathlib.Core.Path.{_≡_};
-ghost use Prim.Native.Nat.{_+_, _%_};
+ghost use mathlib.Core.List.{List};
+ghost use Prim.Native.Nat.{ℕ, _+_, _*_, _%_, _<_};
 ghost use lib.ListN.{length};
-ghost use Rattle.masks.specs.Mask.{published, twice, mask, inRow, constants};
+ghost use Rattle.masks.specs.Mask.{published, one, twice, mask, coversOf, compensation, afterRows, afterColumns, inRow, constants, constantsOf};
 ghost use Rattle.masks.specs.Kinds.{constantOf};
 ghost use Rattle.aes.specs.State.{at, state};
+ghost use Rattle.aes.specs.Key.{roundKey};
 ghost use Rattle.aes.specs.Held.{Holds};
 use crate::label::Label;
+use crate::label::Offsets;
 use crate::label::Position;
 use crate::parts::moved;
 use crate::parts::row;
@@ -47,7 +50,7 @@ pub fn twice(masks: [u8; 16]) -> [u8; 32]
     r
 }
 
-// Mask(l), of masks that lie there twice over.
+// Mask(l), of masks that lie there twice over: byte 0 has label l, and each byte the label after.
 pub fn mask(twice: [u8; 32], l: Label) -> [u8; 16]
     ensures { λ r. ⌜ r ≡ state (λ i. at twice (l .0 % 16 + i)) ⌝ }
 {
@@ -62,10 +65,36 @@ pub fn mask(twice: [u8; 32], l: Label) -> [u8; 16]
     r
 }
 
-// The constants of labels 0 to 15 for any masks, to the lent place. Each is the one of the label four before it turned by a
-// column, so four are worked out and the others moved.
+// The masks over a state for each label, at the record of offset 0, to the lent place.
+pub fn first_covers(masks: [u8; 16], r: &mut [u8; 256])
+    ensures { λ _. ⌜ now (r .exit) ≡ coversOf masks (one 0) ⌝ }
+{
+    in_rows(&twice(masks), r);
+}
+
+// The same at any offsets: each byte has the masks from its offset on.
+pub fn covers_at(masks: [u8; 16], offsets: Offsets, r: &mut [u8; 256])
+    ensures { λ _. ⌜ now (r .exit) ≡ coversOf masks (offsets .0) ⌝ }
+{
+    offsets.covers(&twice(masks), r);
+}
+
+// From each label on sixteen masks, of masks that lie there twice over.
+fn in_rows(masks: &[u8; 32], r: &mut [u8])
+    requires { ⌜ (length (now masks) ≡ 32) × (length (now r) ≡ 256) ⌝ }
+    ensures { λ _. ⌜ ((M : List ℕ) → now (masks .entry) ≡ twice M → now (r .exit) ≡ coversOf M (one 0)) ⌝ }
+{
+    let mut n = 0;
+    while n < 16 {
+        row(masks, n, 0, r, 16 * n);
+        n += 1;
+    }
+}
+
+// The constants of labels 0 to 15 for any masks, at the record of offset 0, to the lent place. Each is the one of the label four
+// before it turned by a column, so four are worked out and the others moved.
 pub fn made(kind: Kind, masks: [u8; 16], r: &mut [u8; 256])
-    ensures { λ _. ⌜ now (r .exit) ≡ constants (constantOf kind) masks ⌝ }
+    ensures { λ _. ⌜ now (r .exit) ≡ constants (constantOf kind) masks (one 0) ⌝ }
 {
     first_four(kind, masks, r);
     let mut y = 64;
@@ -78,7 +107,7 @@ pub fn made(kind: Kind, masks: [u8; 16], r: &mut [u8; 256])
 
 fn first_four(kind: Kind, masks: [u8; 16], r: &mut [u8])
     requires { ⌜ length (now r) ≡ 256 ⌝ }
-    ensures { λ _. ⌜ Holds 256 (inRow (λ k. constantOf kind (mask masks 0 k)) 4) (now (r .exit)) ⌝ }
+    ensures { λ _. ⌜ Holds 256 (inRow (λ k. constantOf kind (mask masks (one 0) k)) 4) (now (r .exit)) ⌝ }
 {
     let twice = twice(masks);
     let mut l = Label::FIRST;
@@ -90,6 +119,59 @@ fn first_four(kind: Kind, masks: [u8; 16], r: &mut [u8])
         l = m;
         n += 1;
     }
+}
+
+// The compensations of masks that lie there for each label, each worked out, and both rows of corrections.
+pub fn compensations_of(covers: &[u8; 256], r: &mut [u8; 256])
+    ensures { λ _. ⌜ now (r .exit) ≡ constantsOf compensation (now (covers .entry)) ⌝ }
+{
+    each_compensation(covers, r);
+}
+
+pub fn corrections_of(covers: &[u8; 256], rows: &mut [u8; 256], columns: &mut [u8; 256])
+    ensures { λ _. ⌜ (now (rows .exit) ≡ constantsOf afterRows (now (covers .entry))) × (now (columns .exit) ≡ constantsOf afterColumns (now (covers .entry))) ⌝ }
+{
+    each_correction(covers, rows, columns);
+}
+
+fn each_compensation(covers: &[u8; 256], r: &mut [u8])
+    requires { ⌜ length (now r) ≡ 256 ⌝ }
+    ensures { λ _. ⌜ now (r .exit) ≡ constantsOf compensation (now (covers .entry)) ⌝ }
+{
+    let mut n = 0;
+    while n < 16 {
+        let m = cover(covers, n);
+        let c = add(m, mix_columns(shift_rows(m)));
+        row(&c, 0, 0, r, 16 * n);
+        n += 1;
+    }
+}
+
+fn each_correction(covers: &[u8; 256], rows: &mut [u8], columns: &mut [u8])
+    requires { ⌜ (length (now rows) ≡ 256) × (length (now columns) ≡ 256) ⌝ }
+    ensures { λ _. ⌜ (now (rows .exit) ≡ constantsOf afterRows (now (covers .entry))) × (now (columns .exit) ≡ constantsOf afterColumns (now (covers .entry))) ⌝ }
+{
+    let mut n = 0;
+    while n < 16 {
+        let m = cover(covers, n);
+        row(&add(m, inv_shift_rows(m)), 0, 0, rows, 16 * n);
+        row(&add(m, inv_mix_columns(m)), 0, 0, columns, 16 * n);
+        n += 1;
+    }
+}
+
+// The masks of one label.
+fn cover(covers: &[u8; 256], n: usize) -> [u8; 16]
+    requires { ⌜ n < 16 ⌝ }
+    ensures { λ m. ⌜ m ≡ roundKey (now (covers .entry)) n ⌝ }
+{
+    let mut m = [0u8; 16];
+    let mut i = 0;
+    while i < 16 {
+        m[i] = covers[16 * n + i];
+        i += 1;
+    }
+    m
 }
 
 fn constant(kind: Kind, m: [u8; 16]) -> [u8; 16]

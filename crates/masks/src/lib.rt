@@ -5,6 +5,7 @@ pub mod constants;
 pub mod label;
 mod order;
 mod parts;
+pub mod places;
 mod sheet;
 pub mod step;
 

@@ -1,9 +1,9 @@
 // The order in which the boxes of a round are called, document 002's: even positions first. So, with the published masks, what a box
 // gives and what the next one takes never lie under one mask.
 ghost use mathlib.Core.Path.{_≡_};
-ghost use Prim.Native.Nat.{_+_, _*_, _<_};
+ghost use Prim.Native.Nat.{ℕ, _+_, _≤_, _<_};
 ghost use Rattle.aes.specs.State.{at};
-ghost use Rattle.masks.specs.Order.{boxedBy, boxOrder, called};
+ghost use Rattle.masks.specs.Order.{boxedBy, boxOrder, called, placesAt};
 use crate::label::Label;
 use crate::label::Position;
 
@@ -35,14 +35,15 @@ impl Turn {
         order: &[u8; 16],
         s: &[u8; 16],
         boxes: &[u8; 4096],
+        places: &[u16; 256],
         l: Label,
     ) -> Turn
-        requires { ⌜ (now order ≡ boxOrder) × (self .0 < 16) ⌝ }
-        ensures { λ next. ⌜ (now (t .exit) ≡ called (boxedBy (now (boxes .entry)) (l .0) (now (s .entry))) (self .0) (now (t .entry))) × (next .0 ≡ self .0 + 1) ⌝ }
+        requires { ⌜ (now order ≡ boxOrder) × (self .0 < 16) × ((i : ℕ) → i < 16 → at (placesAt (now places) (l .0)) i ≤ 3840) ⌝ }
+        ensures { λ next. ⌜ (now (t .exit) ≡ called (boxedBy (now (boxes .entry)) (placesAt (now (places .entry)) (l .0)) (now (s .entry))) (self .0) (now (t .entry))) × (next .0 ≡ self .0 + 1) ⌝ }
     {
         let p = self.position(order);
         let i = p.read();
-        t[i] = entry(boxes, l.over(p), s[i]);
+        t[i] = entry(boxes, l.over(places, p), s[i]);
         Turn(self.0 + 1)
     }
 
@@ -56,10 +57,10 @@ impl Turn {
     }
 }
 
-// What the box with a label answers to a covered byte.
-fn entry(boxes: &[u8; 4096], l: Label, x: u8) -> u8
-    requires { ⌜ l .0 < 16 ⌝ }
-    ensures { λ r. ⌜ r ≡ at (now (boxes .entry)) (256 * l .0 + x) ⌝ }
+// What the box that begins there answers to a covered byte.
+fn entry(boxes: &[u8; 4096], start: usize, x: u8) -> u8
+    requires { ⌜ start ≤ 3840 ⌝ }
+    ensures { λ r. ⌜ r ≡ at (now (boxes .entry)) (start + x) ⌝ }
 {
-    boxes[256 * l.read() + x as usize]
+    boxes[start + x as usize]
 }

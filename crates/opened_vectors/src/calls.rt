@@ -15,13 +15,13 @@ fn answered(other: bool, trial: Trial) -> Trial
     let masks = trial.masks;
     let block = trial.block;
     let labels = trial.labels();
-    let offset = labels.offset;
+    let offsets = labels.record();
     let step = labels.step;
     let mut output = [0xa5u8; 16];
     let reply = if other {
-        decrypt_masked(&schedule, &block, &mut output, &masks, offset, step)
+        decrypt_masked(&schedule, &block, &mut output, &masks, &offsets, step)
     } else {
-        decrypt_published(&schedule, &block, &mut output, offset, step)
+        decrypt_published(&schedule, &block, &mut output, &offsets, step)
     };
     trial.after(reply, output)
 }

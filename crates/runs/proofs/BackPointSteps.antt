@@ -10,10 +10,10 @@ use lib.ListN.{getD}
 use Rattle.aes.specs.State.{invShiftRows, invMixColumns}
 use Rattle.aes.specs.Key.{roundKey}
 use Rattle.masks.specs.Mask.{_⊞_}
-use Rattle.masks.specs.Order.{boxedBy}
+use Rattle.masks.specs.Order.{boxedBy, boxesAt}
 use Rattle.runs.specs.Back.{block, restored}
 use Rattle.runs.specs.Lent.{backSteps, around, backPointAfter}
-use Rattle.runs.proofs.Labels.{advanced}
+use Rattle.runs.proofs.Labels.{label-on}
 
 pub at-point : (m k : ℕ) → m % 6 ≡ k → backPointAfter m ≡ getD (around (m / 6)) k block
 unfolding backPointAfter
@@ -26,15 +26,15 @@ at-restored m e other = at-point m 0 e ∙ later (m / 6) (λ z. other (omega (ar
     later : (r : ℕ) → (r ≡ 0 → ⊥) → getD (around r) 0 block ≡ restored (r - 1)
     later r h = simp (ne-eqb r 0 h)
 
-module _ (n : ℕ) (w b rows columns : List ℕ) (d m l k : ℕ) (s : List ℕ) (round : k + (m + 2) / 6 ≡ n) where
+module _ (n : ℕ) (w b rows columns p : List ℕ) (d m l k : ℕ) (s : List ℕ) (round : k + (m + 2) / 6 ≡ n) where
   -- t is what the point's step makes of s, for any offset that its label has come from and any last constant
   abbrev Made : List ℕ → Type 0
-  Made t = (o : ℕ) (end : List ℕ) → l ≡ (o + d * (n - k)) % 16 → t ≡ backSteps n w b rows columns o d end (backPointAfter m) s
+  Made t = (o : ℕ) (end : List ℕ) → l ≡ (o + d * (n - k)) % 16 → t ≡ backSteps n w b rows columns p o d end (backPointAfter m) s
 
   -- and it stands at its label, in its round and in the part that was lent for it
   abbrev Done : List ℕ → ℕ → ℕ → List ℕ → Type 0
   Done t l′ k′ part =
-      ((o : ℕ) (end : List ℕ) → l ≡ (o + d * (n - k)) % 16 → (t ≡ backSteps n w b rows columns o d end (backPointAfter m) s) × (l′ ≡ (o + d * (n - k′)) % 16))
+      ((o : ℕ) (end : List ℕ) → l ≡ (o + d * (n - k)) % 16 → (t ≡ backSteps n w b rows columns p o d end (backPointAfter m) s) × (l′ ≡ (o + d * (n - k′)) % 16))
       × (k′ + (m + 3) / 6 ≡ n) × (part ≡ t)
 
   -- a state that is not answered at this point keeps label and round
@@ -58,14 +58,14 @@ module _ (n : ℕ) (w b rows columns : List ℕ) (d m l k : ℕ) (s : List ℕ) 
       let r-is : n - k ≡ m / 6 = omega (arith, e, round) in
       kept (λ other. omega arith) (λ o end h. rw (at-point m 2 e) (ht ∙ ap (λ (j : ℕ). s ⊞ roundKey rows j) (h ∙ ap (λ (j : ℕ). (o + d * j) % 16) r-is)))
 
-  pub unboxed-done : {t : List ℕ} {l′ : ℕ} (k′ : ℕ) {part : List ℕ} → m % 6 ≡ 3 → t ≡ boxedBy b l s → l′ ≡ (l + d) % 16 → k′ + 1 ≡ k → part ≡ t → Done t l′ k′ part
+  pub unboxed-done : {t : List ℕ} {l′ : ℕ} (k′ : ℕ) {part : List ℕ} → m % 6 ≡ 3 → t ≡ boxedBy b (boxesAt p l) s → l′ ≡ (l + d) % 16 → k′ + 1 ≡ k → part ≡ t → Done t l′ k′ part
   unfolding backSteps
   unboxed-done {t} {l′} k′ e ht hl hk hp =
       let r-is : n - k ≡ m / 6 = omega (arith, e, round) in
       let next : n - k′ ≡ n - k + 1 = omega (arith, e, round, hk) in (
         λ o end h. (
-          rw (at-point m 3 e) (ht ∙ ap (λ (j : ℕ). boxedBy b j s) (h ∙ ap (λ (j : ℕ). (o + d * j) % 16) r-is)),
-          advanced o d l (n - k) l′ (n - k′) hl next h,
+          rw (at-point m 3 e) (ht ∙ ap (λ (j : ℕ). boxedBy b (boxesAt p j) s) (h ∙ ap (λ (j : ℕ). (o + d * j) % 16) r-is)),
+          label-on o d l (n - k) l′ (n - k′) hl next h,
         ),
         omega (arith, e, round, hk),
         hp,

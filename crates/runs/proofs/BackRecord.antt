@@ -12,16 +12,16 @@ use Rattle.runs.specs.Back.{Back, block, keyed, unshifted, corrected, un
 use Rattle.runs.specs.Lent.{backSteps, around, backPointAfter}
 use Rattle.runs.proofs.BackPointSteps.{at-point, at-restored}
 
-pub back-sized : (n : ℕ) (w b rows columns : List ℕ) (o d : ℕ) (end : List ℕ) → Sized (backSteps n w b rows columns o d end)
+pub back-sized : (n : ℕ) (w b rows columns p : List ℕ) (o d : ℕ) (end : List ℕ) → Sized (backSteps n w b rows columns p o d end)
 unfolding backSteps addRoundKey boxedBy invShiftRows invMixColumns
-back-sized n w b rows columns o d end block s l = l
-back-sized n w b rows columns o d end (keyed r) s l = refl
-back-sized n w b rows columns o d end (unshifted r) s l = refl
-back-sized n w b rows columns o d end (corrected r) s l = refl
-back-sized n w b rows columns o d end (unboxed r) s l = refl
-back-sized n w b rows columns o d end (unmixed r) s l = refl
-back-sized n w b rows columns o d end (restored r) s l = refl
-back-sized n w b rows columns o d end (uncovered r) s l = refl
+back-sized n w b rows columns p o d end block s l = l
+back-sized n w b rows columns p o d end (keyed r) s l = refl
+back-sized n w b rows columns p o d end (unshifted r) s l = refl
+back-sized n w b rows columns p o d end (corrected r) s l = refl
+back-sized n w b rows columns p o d end (unboxed r) s l = refl
+back-sized n w b rows columns p o d end (unmixed r) s l = refl
+back-sized n w b rows columns p o d end (restored r) s l = refl
+back-sized n w b rows columns p o d end (uncovered r) s l = refl
 
 -- the points behind the covered block, one a turn
 abbrev pub after : ℕ → List Back

@@ -1,5 +1,5 @@
--- The label of a covered state is its offset and a step for each of its rounds, modulo 16: so it begins, and so every step of a run
--- leaves it.
+-- The label of a covered state is that with which a run begins and a step for each of its rounds, modulo 16: so it begins, and so
+-- every step of a run leaves it.
 -- Assumes nothing.
 use mathlib.Core.Path.{_≡_, sym, ap, _∙_}
 use Prim.Native.Nat.{ℕ, _+_, _*_, _%_, _<_}
@@ -12,8 +12,8 @@ module _ (o d : ℕ) where
   abbrev pub At : ℕ → ℕ → Type 0
   At l r = l ≡ (o + d * r) % 16
 
-  pub first-label : (l r : ℕ) → l ≡ o % 16 → r ≡ 0 → At l r
-  first-label l r hl hr = rw (hr, mul-zero) (omega (arith, hl))
+  pub first-label : (l r : ℕ) → o < 16 → l ≡ o → r ≡ 0 → At l r
+  first-label l r lt hl hr = rw (hr, mul-zero) (omega (arith, lt, hl))
 
   pub same-label : (l r l′ r′ : ℕ) → l′ ≡ l → r′ ≡ r → At l r → At l′ r′
   same-label l r l′ r′ hl hr h = hl ∙ h ∙ ap (λ (k : ℕ). (o + d * k) % 16) (sym hr)
@@ -22,8 +22,8 @@ module _ (o d : ℕ) where
   on : (k l l′ : ℕ) → l′ ≡ (l + d) % 16 → l ≡ (o + k) % 16 → l′ ≡ (o + (k + d)) % 16
   on k l l′ hl h = omega (arith, hl, h)
 
-  pub advanced : (l r l′ r′ : ℕ) → l′ ≡ (l + d) % 16 → r′ ≡ r + 1 → At l r → At l′ r′
-  advanced l r l′ r′ hl hr h = rw (hr, add-one, mul-suc) (on (d * r) l l′ hl h)
+  pub label-on : (l r l′ r′ : ℕ) → l′ ≡ (l + d) % 16 → r′ ≡ r + 1 → At l r → At l′ r′
+  label-on l r l′ r′ hl hr h = rw (hr, add-one, mul-suc) (on (d * r) l l′ hl h)
 
 pub label-below : (k l : ℕ) → l ≡ k % 16 → l < 16
 label-below k l e = omega arith

@@ -28,20 +28,20 @@ sixes (suc n) = sixes n ++ six n
 unfoldable pub backPoints : ℕ → List Back
 backPoints nr = (block ∷ keyed 0 ∷ sixes (nr - 1)) ++ closing (nr - 1)
 
--- at offset o over the masks M, whose labels advance by d from round to round, and the schedule w
-unfoldable pub uncovering : ℕ → List ℕ → ℕ → ℕ → List ℕ → Back → List ℕ → List ℕ
-uncovering nr M o d w block s = s ⊞ mask M o 0
-uncovering nr M o d w (keyed r) s = s ⊞ roundKey w (nr - r)
-uncovering nr M o d w (unshifted r) s = invShiftRows s
-uncovering nr M o d w (corrected r) s = s ⊞ afterRows (mask M o (d * r))
-uncovering nr M o d w (unboxed r) s = state (λ i. maskedBox invSBox M d (label o (d * r) i) (at s i))
-uncovering nr M o d w (unmixed r) s = invMixColumns s
-uncovering nr M o d w (restored r) s = s ⊞ afterColumns (mask M o (d * suc r))
-uncovering nr M o d w (uncovered r) s = s ⊞ mask M o (d * suc r)
+-- at the offsets v over the masks M, whose labels advance by d from round to round, and the schedule w
+unfoldable pub uncovering : ℕ → List ℕ → List ℕ → ℕ → List ℕ → Back → List ℕ → List ℕ
+uncovering nr M v d w block s = s ⊞ mask M v 0
+uncovering nr M v d w (keyed r) s = s ⊞ roundKey w (nr - r)
+uncovering nr M v d w (unshifted r) s = invShiftRows s
+uncovering nr M v d w (corrected r) s = s ⊞ afterRows (mask M v (d * r))
+uncovering nr M v d w (unboxed r) s = state (λ i. maskedBox invSBox M d (label v (d * r) i) (at s i))
+uncovering nr M v d w (unmixed r) s = invMixColumns s
+uncovering nr M v d w (restored r) s = s ⊞ afterColumns (mask M v (d * suc r))
+uncovering nr M v d w (uncovered r) s = s ⊞ mask M v (d * suc r)
 
 -- the recorded states of a decryption of nr rounds, and the block that it ends with
-unfoldable pub maskedBackRecord : ℕ → List ℕ → ℕ → ℕ → List ℕ → List ℕ → List (List ℕ)
-maskedBackRecord nr M o d w input = run (uncovering nr M o d w) input (backPoints nr)
+unfoldable pub maskedBackRecord : ℕ → List ℕ → List ℕ → ℕ → List ℕ → List ℕ → List (List ℕ)
+maskedBackRecord nr M v d w input = run (uncovering nr M v d w) input (backPoints nr)
 
-unfoldable pub maskedInvCipher : ℕ → List ℕ → ℕ → ℕ → List ℕ → List ℕ → List ℕ
-maskedInvCipher nr M o d w input = last input (maskedBackRecord nr M o d w input)
+unfoldable pub maskedInvCipher : ℕ → List ℕ → List ℕ → ℕ → List ℕ → List ℕ → List ℕ
+maskedInvCipher nr M v d w input = last input (maskedBackRecord nr M v d w input)

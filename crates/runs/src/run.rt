@@ -8,9 +8,9 @@ ghost use Rattle.aes.specs.Box.{sBox};
 ghost use Rattle.aes.specs.State.{shiftRows, mixColumns};
 ghost use Rattle.aes.specs.Key.{roundKey};
 ghost use Rattle.aes.specs.Record.{bytes};
-ghost use Rattle.masks.specs.Mask.{_⊞_, twice, maskedBoxes, compensation, constants};
+ghost use Rattle.masks.specs.Mask.{_⊞_, advanced, coversOf, maskedBoxes, compensation, constants};
 ghost use Rattle.runs.specs.Run.{maskedRecord, maskedCipher};
-ghost use Rattle.masks.specs.Order.{boxedBy};
+ghost use Rattle.masks.specs.Order.{boxedBy, boxesAt, placesOf};
 ghost use Rattle.runs.specs.Lent.{steps, pointAfter};
 use crate::round::Round;
 use crate::steps::Covered;
@@ -24,30 +24,49 @@ use crate::steps::uncover;
 use lent::given::Block;
 use lent::given::Masks;
 use masks::constants::Kind;
+use masks::label::Label;
 
 // The 71 states.
 pub fn recorded(
     block: Block,
     w: &[u8],
     masks: Masks,
+    places: &[u16; 256],
+    covers: &[u8; 256],
     boxes: &[u8; 4096],
     compensations: &[u8; 256],
-    offset: u8,
+    first: Label,
     states: &mut [u8],
 )
-    requires { ⌜ (length (now w) ≡ 240) × (now boxes ≡ maskedBoxes sBox (masks .0) (masks .1)) × (now compensations ≡ constants compensation (masks .0)) × (length (now states) ≡ 1136) × (masks .2 ≡ twice (masks .0)) ⌝ }
-    ensures { λ _. ⌜ now (states .exit) ≡ bytes (maskedRecord 14 (masks .0) offset (masks .1) (now (w .entry)) (block .0)) ⌝ }
+    requires { ⌜ (length (now w) ≡ 240) × (now boxes ≡ maskedBoxes sBox (masks .0) (masks .1)) × (now compensations ≡ constants compensation (masks .0) (masks .2 .0)) × (length (now states) ≡ 1136) × (first .0 < 16) × (now places ≡ placesOf (masks .2 .0)) × (now covers ≡ coversOf (masks .0) (masks .2 .0)) ⌝ }
+    ensures { λ _. ⌜ now (states .exit) ≡ bytes (maskedRecord 14 (masks .0) (advanced (masks .2 .0) (first .0)) (masks .1) (now (w .entry)) (block .0)) ⌝ }
 {
-    let mut s = cover(block, masks, offset, Round::FIRST, &mut states[0..16]);
+    let mut s = cover(
+        block,
+        masks,
+        covers,
+        first,
+        Round::FIRST,
+        &mut states[0..16],
+    );
     let mut n = 0;
     while n < 69 {
         let a = 16 * n + 16;
         let e = a + 16;
-        let t = point(s, w, masks, boxes, compensations, n, &mut states[a..e]);
+        let t = point(
+            s,
+            w,
+            masks,
+            places,
+            boxes,
+            compensations,
+            n,
+            &mut states[a..e],
+        );
         s = t;
         n += 1;
     }
-    uncover(s, masks, &mut states[1120..1136]);
+    uncover(s, masks, covers, &mut states[1120..1136]);
 }
 
 // The finished block alone. The last step is lent the output, and all before it a scratch.
@@ -55,24 +74,29 @@ pub fn unrecorded(
     block: Block,
     w: &[u8],
     masks: Masks,
+    places: &[u16; 256],
+    covers: &[u8; 256],
     boxes: &[u8; 4096],
     compensations: &[u8; 256],
-    offset: u8,
+    first: Label,
     output: &mut [u8],
 )
-    requires { ⌜ (length (now w) ≡ 240) × (now boxes ≡ maskedBoxes sBox (masks .0) (masks .1)) × (now compensations ≡ constants compensation (masks .0)) × (length (now output) ≡ 16) × (masks .2 ≡ twice (masks .0)) ⌝ }
-    ensures { λ _. ⌜ now (output .exit) ≡ maskedCipher 14 (masks .0) offset (masks .1) (now (w .entry)) (block .0) ⌝ }
+    requires { ⌜ (length (now w) ≡ 240) × (now boxes ≡ maskedBoxes sBox (masks .0) (masks .1)) × (now compensations ≡ constants compensation (masks .0) (masks .2 .0)) × (length (now output) ≡ 16) × (first .0 < 16) × (now places ≡ placesOf (masks .2 .0)) × (now covers ≡ coversOf (masks .0) (masks .2 .0)) ⌝ }
+    ensures { λ _. ⌜ now (output .exit) ≡ maskedCipher 14 (masks .0) (advanced (masks .2 .0) (first .0)) (masks .1) (now (w .entry)) (block .0) ⌝ }
 {
     let mut part = [0u8; 16];
-    let s = cover(block, masks, offset, Round::FIRST, &mut part);
-    let mut t = half(s, w, masks, boxes);
-    while !t.finished() {
-        let u = rest(t, masks, compensations);
-        let v = half(u, w, masks, boxes);
+    let mut t = cover(block, masks, covers, first, Round::FIRST, &mut part);
+    loop {
+        let u = half(t, w, masks, places, boxes);
+        t = u;
+        if u.finished() {
+            break;
+        }
+        let v = rest(u, masks, compensations);
         t = v;
     }
     let u = add_key(t, w, &mut part);
-    uncover(u, masks, output);
+    uncover(u, masks, covers, output);
 }
 
 // The step at point n after the covered block, five to a round; the last round is closed. The last point uncovers, and is apart.
@@ -80,17 +104,18 @@ fn point(
     s: Covered,
     w: &[u8],
     masks: Masks,
+    places: &[u16; 256],
     lent: &[u8; 4096],
     compensations: &[u8; 256],
     n: usize,
     part: &mut [u8],
 ) -> Covered
-    requires { ⌜ (n < 69) × (s .label .0 < 16) × (s .round .0 ≡ (n + 3) / 5) × (length (now w) ≡ 240) × (now lent ≡ maskedBoxes sBox (masks .0) (masks .1)) × (now compensations ≡ constants compensation (masks .0)) × (length (now part) ≡ 16) ⌝ }
-    ensures { λ t. ⌜ ((o : ℕ) (end : List ℕ) → s .label .0 ≡ (o + masks .1 * s .round .0) % 16 → (t .bytes ≡ steps (now (w .entry)) (now (lent .entry)) (now (compensations .entry)) o (masks .1) end (pointAfter n) (s .bytes)) × (t .label .0 ≡ (o + masks .1 * t .round .0) % 16)) × (t .round .0 ≡ (n + 4) / 5) × (now (part .exit) ≡ t .bytes) ⌝ }
+    requires { ⌜ (n < 69) × (s .label .0 < 16) × (s .round .0 ≡ (n + 3) / 5) × (length (now w) ≡ 240) × (now lent ≡ maskedBoxes sBox (masks .0) (masks .1)) × (now compensations ≡ constants compensation (masks .0) (masks .2 .0)) × (length (now part) ≡ 16) × (now places ≡ placesOf (masks .2 .0)) ⌝ }
+    ensures { λ t. ⌜ ((o : ℕ) (end : List ℕ) → s .label .0 ≡ (o + masks .1 * s .round .0) % 16 → (t .bytes ≡ steps (now (w .entry)) (now (lent .entry)) (now (compensations .entry)) (masks .2 .0) o (masks .1) end (pointAfter n) (s .bytes)) × (t .label .0 ≡ (o + masks .1 * t .round .0) % 16)) × (t .round .0 ≡ (n + 4) / 5) × (now (part .exit) ≡ t .bytes) ⌝ }
 {
     match n % 5 {
         0 => add_key(s, w, part),
-        1 => boxes(s, masks, lent, part),
+        1 => boxes(s, masks, places, lent, part),
         2 => shift_rows(s, part),
         3 => {
             if n == 68 {
@@ -104,19 +129,19 @@ fn point(
 
 // What every round begins with, where nothing is recorded: key, boxes and ShiftRows. It is apart from the recorded points, so that
 // the compiler sees that what the steps write here is never read.
-fn half(s: Covered, w: &[u8], masks: Masks, lent: &[u8; 4096]) -> Covered
-    requires { ⌜ (s .label .0 < 16) × (s .round .0 < 14) × (length (now w) ≡ 240) × (now lent ≡ maskedBoxes sBox (masks .0) (masks .1)) ⌝ }
-    ensures { λ t. ⌜ (t .bytes ≡ shiftRows (boxedBy (now (lent .entry)) (s .label .0) (s .bytes ⊞ roundKey (now (w .entry)) (s .round .0)))) × (t .label .0 ≡ (s .label .0 + masks .1) % 16) × (t .round .0 ≡ s .round .0 + 1) ⌝ }
+fn half(s: Covered, w: &[u8], masks: Masks, places: &[u16; 256], lent: &[u8; 4096]) -> Covered
+    requires { ⌜ (s .label .0 < 16) × (s .round .0 < 14) × (length (now w) ≡ 240) × (now lent ≡ maskedBoxes sBox (masks .0) (masks .1)) × (now places ≡ placesOf (masks .2 .0)) ⌝ }
+    ensures { λ t. ⌜ (t .bytes ≡ shiftRows (boxedBy (now (lent .entry)) (boxesAt (masks .2 .0) (s .label .0)) (s .bytes ⊞ roundKey (now (w .entry)) (s .round .0)))) × (t .label .0 ≡ (s .label .0 + masks .1) % 16) × (t .round .0 ≡ s .round .0 + 1) ⌝ }
 {
     let mut part = [0u8; 16];
     let t = add_key(s, w, &mut part);
-    let u = boxes(t, masks, lent, &mut part);
+    let u = boxes(t, masks, places, lent, &mut part);
     shift_rows(u, &mut part)
 }
 
 // What a whole round ends with: MixColumns and compensation.
 fn rest(s: Covered, masks: Masks, compensations: &[u8; 256]) -> Covered
-    requires { ⌜ (s .label .0 < 16) × (now compensations ≡ constants compensation (masks .0)) ⌝ }
+    requires { ⌜ (s .label .0 < 16) × (now compensations ≡ constants compensation (masks .0) (masks .2 .0)) ⌝ }
     ensures { λ t. ⌜ (t .bytes ≡ mixColumns (s .bytes) ⊞ roundKey (now (compensations .entry)) (s .label .0)) × (t .label .0 ≡ s .label .0) × (t .round .0 ≡ s .round .0) ⌝ }
 {
     let mut part = [0u8; 16];

@@ -8,9 +8,9 @@ ghost use lib.ListN.{length};
 ghost use Rattle.aes.specs.Box.{sBox, invSBox};
 ghost use Rattle.aes.specs.State.{shiftRows, mixColumns, invShiftRows, invMixColumns};
 ghost use Rattle.aes.specs.Key.{roundKey};
-ghost use Rattle.masks.specs.Mask.{_⊞_, twice, mask, maskedBoxes, constants};
+ghost use Rattle.masks.specs.Mask.{_⊞_, mask, coversOf, maskedBoxes, constants};
 ghost use Rattle.masks.specs.Kinds.{constantOf};
-ghost use Rattle.masks.specs.Order.{boxedBy};
+ghost use Rattle.masks.specs.Order.{boxedBy, boxesAt, placesOf};
 ghost use Rattle.lent.specs.Sixteen.{sixteen};
 use crate::blocks::keep;
 use crate::round::Round;
@@ -18,7 +18,6 @@ use aes::add;
 use lent::blocks::sixteen;
 use lent::given::Block;
 use lent::given::Masks;
-use masks::answers::answers;
 use masks::constants::Kind;
 use masks::label::Label;
 
@@ -62,15 +61,15 @@ impl Covered {
 pub(crate) fn cover(
     block: Block,
     masks: Masks,
-    offset: u8,
-    first: Round,
+    covers: &[u8; 256],
+    first: Label,
+    round: Round,
     part: &mut [u8],
 ) -> Covered
-    requires { ⌜ (length (now part) ≡ 16) × (masks .2 ≡ twice (masks .0)) ⌝ }
-    ensures { λ t. ⌜ (t .bytes ≡ block .0 ⊞ mask (masks .0) 0 (offset % 16)) × (t .label .0 ≡ offset % 16) × (t .round .0 ≡ first .0) × (now (part .exit) ≡ t .bytes) ⌝ }
+    requires { ⌜ (length (now part) ≡ 16) × (now covers ≡ coversOf (masks .0) (masks .2 .0)) × (first .0 < 16) ⌝ }
+    ensures { λ t. ⌜ (t .bytes ≡ block .0 ⊞ mask (masks .0) (masks .2 .0) (first .0)) × (t .label .0 ≡ first .0) × (t .round .0 ≡ round .0) × (now (part .exit) ≡ t .bytes) ⌝ }
 {
-    let l = Label::make(offset);
-    Covered::kept(l, first, block.under(masks, l), part)
+    Covered::kept(first, round, block.under(masks, covers, first), part)
 }
 
 pub(crate) fn add_key(s: Covered, w: &[u8], part: &mut [u8]) -> Covered
@@ -83,37 +82,51 @@ pub(crate) fn add_key(s: Covered, w: &[u8], part: &mut [u8]) -> Covered
 }
 
 // Byte i by the box over it. The boxes are those of the masks, by whose step the label then advances.
-pub(crate) fn boxes(s: Covered, masks: Masks, boxes: &[u8; 4096], part: &mut [u8]) -> Covered
-    requires { ⌜ (now boxes ≡ maskedBoxes sBox (masks .0) (masks .1)) × (s .label .0 < 16) × (s .round .0 < 14) × (length (now part) ≡ 16) ⌝ }
-    ensures { λ t. ⌜ (t .bytes ≡ boxedBy (now (boxes .entry)) (s .label .0) (s .bytes)) × (t .label .0 ≡ (s .label .0 + masks .1) % 16) × (t .round .0 ≡ s .round .0 + 1) × (now (part .exit) ≡ t .bytes) ⌝ }
+pub(crate) fn boxes(
+    s: Covered,
+    masks: Masks,
+    places: &[u16; 256],
+    boxes: &[u8; 4096],
+    part: &mut [u8],
+) -> Covered
+    requires { ⌜ (now boxes ≡ maskedBoxes sBox (masks .0) (masks .1)) × (s .label .0 < 16) × (s .round .0 < 14) × (length (now part) ≡ 16) × (now places ≡ placesOf (masks .2 .0)) ⌝ }
+    ensures { λ t. ⌜ (t .bytes ≡ boxedBy (now (boxes .entry)) (boxesAt (masks .2 .0) (s .label .0)) (s .bytes)) × (t .label .0 ≡ (s .label .0 + masks .1) % 16) × (t .round .0 ≡ s .round .0 + 1) × (now (part .exit) ≡ t .bytes) ⌝ }
 {
     let r = s.round;
-    answered(s, masks, r.next(), boxes, part)
+    answered(s, masks, r.next(), places, boxes, part)
 }
 
 // The same in a decryption: the boxes are those of the inverse of S.
 pub(crate) fn inverse_boxes(
     s: Covered,
     masks: Masks,
+    places: &[u16; 256],
     boxes: &[u8; 4096],
     part: &mut [u8],
 ) -> Covered
-    requires { ⌜ (now boxes ≡ maskedBoxes invSBox (masks .0) (masks .1)) × (s .label .0 < 16) × (0 < s .round .0) × (length (now part) ≡ 16) ⌝ }
-    ensures { λ t. ⌜ (t .bytes ≡ boxedBy (now (boxes .entry)) (s .label .0) (s .bytes)) × (t .label .0 ≡ (s .label .0 + masks .1) % 16) × (t .round .0 + 1 ≡ s .round .0) × (now (part .exit) ≡ t .bytes) ⌝ }
+    requires { ⌜ (now boxes ≡ maskedBoxes invSBox (masks .0) (masks .1)) × (s .label .0 < 16) × (0 < s .round .0) × (length (now part) ≡ 16) × (now places ≡ placesOf (masks .2 .0)) ⌝ }
+    ensures { λ t. ⌜ (t .bytes ≡ boxedBy (now (boxes .entry)) (boxesAt (masks .2 .0) (s .label .0)) (s .bytes)) × (t .label .0 ≡ (s .label .0 + masks .1) % 16) × (t .round .0 + 1 ≡ s .round .0) × (now (part .exit) ≡ t .bytes) ⌝ }
 {
     let r = s.round;
-    answered(s, masks, r.previous(), boxes, part)
+    answered(s, masks, r.previous(), places, boxes, part)
 }
 
 // What the boxes answer, with its label and the round that comes next.
-fn answered(s: Covered, masks: Masks, next: Round, boxes: &[u8; 4096], part: &mut [u8]) -> Covered
-    requires { ⌜ length (now part) ≡ 16 ⌝ }
-    ensures { λ t. ⌜ (t .bytes ≡ boxedBy (now (boxes .entry)) (s .label .0) (s .bytes)) × (t .label .0 ≡ (s .label .0 + masks .1) % 16) × (t .round .0 ≡ next .0) × (now (part .exit) ≡ t .bytes) ⌝ }
+fn answered(
+    s: Covered,
+    masks: Masks,
+    next: Round,
+    places: &[u16; 256],
+    boxes: &[u8; 4096],
+    part: &mut [u8],
+) -> Covered
+    requires { ⌜ (length (now part) ≡ 16) × (now places ≡ placesOf (masks .2 .0)) ⌝ }
+    ensures { λ t. ⌜ (t .bytes ≡ boxedBy (now (boxes .entry)) (boxesAt (masks .2 .0) (s .label .0)) (s .bytes)) × (t .label .0 ≡ (s .label .0 + masks .1) % 16) × (t .round .0 ≡ next .0) × (now (part .exit) ≡ t .bytes) ⌝ }
 {
     let b = s.bytes;
     let l = s.label;
     let m = masks.advanced(l);
-    Covered::kept(m, next, answers(b, boxes, l), part)
+    Covered::kept(m, next, masks.answers(b, boxes, places, l), part)
 }
 
 pub(crate) fn shift_rows(s: Covered, part: &mut [u8]) -> Covered
@@ -156,7 +169,7 @@ pub(crate) fn compensate(
     lent: &[u8; 256],
     part: &mut [u8],
 ) -> Covered
-    requires { ⌜ (now lent ≡ constants (constantOf kind) (masks .0)) × (s .label .0 < 16) × (length (now part) ≡ 16) ⌝ }
+    requires { ⌜ (now lent ≡ constants (constantOf kind) (masks .0) (masks .2 .0)) × (s .label .0 < 16) × (length (now part) ≡ 16) ⌝ }
     ensures { λ t. ⌜ (t .bytes ≡ s .bytes ⊞ sixteen (now (lent .entry)) (s .label .0)) × (t .label .0 ≡ s .label .0) × (t .round .0 ≡ s .round .0) × (now (part .exit) ≡ t .bytes) ⌝ }
 {
     let b = s.bytes;
@@ -165,19 +178,19 @@ pub(crate) fn compensate(
 }
 
 // After the last round alone.
-pub(crate) fn uncover(s: Covered, masks: Masks, part: &mut [u8])
-    requires { ⌜ (s .label .0 < 16) × (s .round .0 ≡ 14) × (length (now part) ≡ 16) × (masks .2 ≡ twice (masks .0)) ⌝ }
-    ensures { λ _. ⌜ now (part .exit) ≡ s .bytes ⊞ shiftRows (mask (masks .0) 0 (s .label .0)) ⌝ }
+pub(crate) fn uncover(s: Covered, masks: Masks, covers: &[u8; 256], part: &mut [u8])
+    requires { ⌜ (s .label .0 < 16) × (s .round .0 ≡ 14) × (length (now part) ≡ 16) × (now covers ≡ coversOf (masks .0) (masks .2 .0)) ⌝ }
+    ensures { λ _. ⌜ now (part .exit) ≡ s .bytes ⊞ shiftRows (mask (masks .0) (masks .2 .0) (s .label .0)) ⌝ }
 {
     let b = s.bytes;
-    keep(add(b, aes::shift_rows(masks.mask(s.label))), part);
+    keep(add(b, aes::shift_rows(masks.mask(covers, s.label))), part);
 }
 
 // The same after the last round of a decryption, whose mask lies on the state as it is.
-pub(crate) fn uncover_plain(s: Covered, masks: Masks, part: &mut [u8])
-    requires { ⌜ (s .label .0 < 16) × (s .round .0 ≡ 0) × (length (now part) ≡ 16) × (masks .2 ≡ twice (masks .0)) ⌝ }
-    ensures { λ _. ⌜ now (part .exit) ≡ s .bytes ⊞ mask (masks .0) 0 (s .label .0) ⌝ }
+pub(crate) fn uncover_plain(s: Covered, masks: Masks, covers: &[u8; 256], part: &mut [u8])
+    requires { ⌜ (s .label .0 < 16) × (s .round .0 ≡ 0) × (length (now part) ≡ 16) × (now covers ≡ coversOf (masks .0) (masks .2 .0)) ⌝ }
+    ensures { λ _. ⌜ now (part .exit) ≡ s .bytes ⊞ mask (masks .0) (masks .2 .0) (s .label .0) ⌝ }
 {
     let b = s.bytes;
-    keep(add(b, masks.mask(s.label)), part);
+    keep(add(b, masks.mask(covers, s.label)), part);
 }

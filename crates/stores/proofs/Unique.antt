@@ -6,6 +6,7 @@ use Rattle.stores.proofs.boxes.boxes.Reads as boxes
 use Rattle.stores.proofs.constants.after_columns.Reads as after-columns
 use Rattle.stores.proofs.constants.after_rows.Reads as after-rows
 use Rattle.stores.proofs.constants.compensations.Reads as compensations
+use Rattle.stores.proofs.constants.covers.Reads as covers
 use Rattle.stores.proofs.inverse.inverse_boxes.Reads as inverse-boxes
 
 pub boxes-unique : Unique boxes.Post
@@ -13,6 +14,9 @@ boxes-unique κs args exit x y p q = p ∙ sym q
 
 pub inverse-boxes-unique : Unique inverse-boxes.Post
 inverse-boxes-unique κs args exit x y p q = p ∙ sym q
+
+pub covers-unique : Unique covers.Post
+covers-unique κs args exit x y p q = p ∙ sym q
 
 pub compensations-unique : Unique compensations.Post
 compensations-unique κs args exit x y p q = p ∙ sym q

@@ -1,23 +1,24 @@
--- The balance of the record of a masked decryption: over the sixteen offsets, of each byte that one mask covers; and that it fails
+-- The balance of the record of a masked decryption: over the sixteen records that are 0 to 15 on from any one, of each byte that
+-- one mask covers; and that it fails
 -- after INVMIXCOLUMNS.
 -- Assumes nothing.
 use mathlib.Core.Path.{_≡_, refl, ap, _∙_}
 use mathlib.Core.List.{List}
 use Prim.Native.Nat.{ℕ, suc, _+_, _*_, _<_}
-use native.Mathlib.Nat.{add-zero, mul-one}
 use native.Mathlib.Omega.{arith}
 use lib.Dec.{T, lit<}
 use lib.ListN.{length, getD}
+use Rattle.aes.specs.Byte.{_⊕_}
 use Rattle.aes.specs.Field.{xTimes, times as product, _•_}
 use Rattle.aes.specs.State.{at, dot, invMixColumns}
 use Rattle.aes.specs.Reply.{taken}
-use Rattle.masks.specs.Mask.{published, mask}
-use Rattle.masks.proofs.Counted.{mask-on}
+use Rattle.masks.specs.Mask.{published, one, advanced, mask}
 use Rattle.runs.specs.Back.{Back, block, keyed, unshifted, corrected, unboxed, unmixed, restored, uncovered, sixes, backPoints}
 use Rattle.masked.specs.Calls.{recordMaskedDecryptionOf}
 use Rattle.beside.specs.Fitness.{pattern, count, fitnessOf}
 use Rattle.theorems.specs.BackTable.{maskBackBy, invCipherAt}
 use Rattle.theorems.specs.Balance.{times, Balanced, singleBack, howMany}
+use Rattle.theorems.proofs.Records.{one-offsets, on-offsets, next-one}
 use Rattle.theorems.proofs.Balancing.{upper-unbalanced}
 use Rattle.theorems.proofs.OneMask.{OneMask, own, moved-right, one-balance}
 use Rattle.theorems.proofs.Fit.{fit-balanced, published-fit}
@@ -36,12 +37,12 @@ one-of (restored r) i t h = own (suc r) h (λ K. refl)
 one-of (uncovered r) i t h = absurd t
 
 -- for every table that the fitness test passes
-pub back-balance : (M : List ℕ) → fitnessOf M .1 ≡ 1 → (d : ℕ) → T (taken d) → (w b states : List ℕ) → length w ≡ 240 → length b ≡ 16 → length states ≡ 1360
+pub back-balance : (M : List ℕ) → fitnessOf M .1 ≡ 1 → (v : List ℕ) (d : ℕ) → T (taken d) → (w b states : List ℕ) → length w ≡ 240 → length b ≡ 16 → length states ≡ 1360
     → (q i : ℕ) → q < 85 → T (singleBack (getD (backPoints 14) q block)) → i < 16
-    → Balanced (λ o. at (recordMaskedDecryptionOf w b M o d states .1) (16 * q + i))
-back-balance M fit d td w b states lw lb ls q i hq t hi =
-    one-balance M (fit-balanced M fit .1) d (one-of (getD (backPoints 14) q block) i t hi) _ (at (invCipherAt 14 w b (getD (backPoints 14) q block)) i)
-    (λ o h. back-byte w b states lw lb ls M (fit-balanced M fit .0) o (omega arith) d td q i hq hi)
+    → Balanced (λ o. at (recordMaskedDecryptionOf w b M (advanced v o) d states .1) (16 * q + i))
+back-balance M fit v d td w b states lw lb ls q i hq t hi =
+    one-balance M (fit-balanced M fit .1) v d (one-of (getD (backPoints 14) q block) i t hi) _ (at (invCipherAt 14 w b (getD (backPoints 14) q block)) i)
+    (λ o h. back-byte w b states lw lb ls M (fit-balanced M fit .0) (advanced v o) (on-offsets v o) d td q i hq hi)
 
 -- computed: one mask covers each byte at 71 of the 85 points
 pub seventy-one-back : howMany singleBack (backPoints 14) ≡ 71
@@ -50,7 +51,7 @@ seventy-one-back = refl
 
 -- computed: of what INVMIXCOLUMNS makes of a mask, the upper three bits of byte 0 are 111 at none of the sixteen labels
 abbrev unmixture-at : ℕ → ℕ
-unmixture-at o = at (invMixColumns (mask published o 0)) 0
+unmixture-at o = at (invMixColumns (mask published (one o) 0)) 0
 
 pub unmixture : times unmixture-at 5 6 7 7 ≡ 0
 unfolding mask published invMixColumns dot _•_ product xTimes pattern count
@@ -58,14 +59,14 @@ unmixture = refl
 
 -- the published masks, with any step that is taken
 module _ (d : ℕ) (t : T (taken d)) (w b states : List ℕ) (lw : length w ≡ 240) (lb : length b ≡ 16) (ls : length states ≡ 1360) where
-  pub published-back-balance : (q i : ℕ) → q < 85 → T (singleBack (getD (backPoints 14) q block)) → i < 16
-      → Balanced (λ o. at (recordMaskedDecryptionOf w b published o d states .1) (16 * q + i))
-  published-back-balance = back-balance published (ap (λ (r : ℕ × ℕ). r .1) published-fit) d t w b states lw lb ls
+  pub published-back-balance : (v : List ℕ) (q i : ℕ) → q < 85 → T (singleBack (getD (backPoints 14) q block)) → i < 16
+      → Balanced (λ o. at (recordMaskedDecryptionOf w b published (advanced v o) d states .1) (16 * q + i))
+  published-back-balance v = back-balance published (ap (λ (r : ℕ × ℕ). r .1) published-fit) v d t w b states lw lb ls
 
-  -- after the first INVMIXCOLUMNS, at point 6, balance fails for every schedule and block
-  pub unmixture-unbalanced : Balanced (λ o. at (recordMaskedDecryptionOf w b published o d states .1) (16 * 6 + 0)) → ⊥
+  -- after the first INVMIXCOLUMNS, at point 6, balance fails over the records of one offset, for every schedule and block
+  pub unmixture-unbalanced : Balanced (λ o. at (recordMaskedDecryptionOf w b published (one o) d states .1) (16 * 6 + 0)) → ⊥
   unfolding maskBackBy backPoints sixes
   unmixture-unbalanced =
-      upper-unbalanced (λ o. at (recordMaskedDecryptionOf w b published o d states .1) (16 * 6 + 0)) unmixture-at (at (invCipherAt 14 w b (unmixed 0)) 0) d 0
-      (λ o h. back-byte w b states lw lb ls published published-length o (omega arith) d t 6 0 (lit< tt) (lit< tt) ∙ rw (mul-one, mask-on published o d 0, add-zero))
+      upper-unbalanced (λ o. at (recordMaskedDecryptionOf w b published (one o) d states .1) (16 * 6 + 0)) unmixture-at (at (invCipherAt 14 w b (unmixed 0)) 0) d 0
+      (λ o h. back-byte w b states lw lb ls published published-length (one o) (one-offsets o) d t 6 0 (lit< tt) (lit< tt) ∙ ap (λ (m : List ℕ). at (invCipherAt 14 w b (unmixed 0)) 0 ⊕ at (invMixColumns m) 0) (next-one published o d))
       unmixture (λ e. omega arith)

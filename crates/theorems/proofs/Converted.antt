@@ -10,7 +10,7 @@ use Rattle.aes.specs.State.{shiftRows, addRoundKey}
 use Rattle.aes.specs.Cipher.{cipher}
 use Rattle.aes.specs.Record.{wholes, points, cipherAt}
 use Rattle.aes.specs.Calls.{encryptOf}
-use Rattle.masks.specs.Mask.{published, _⊞_, mask}
+use Rattle.masks.specs.Mask.{one, published, _⊞_, mask}
 use Rattle.runs.specs.Run.{maskedRecord}
 use Rattle.beside.specs.Stored.{stored, convertOf}
 use Rattle.theorems.specs.MaskTable.{maskBy}
@@ -29,21 +29,21 @@ add-twice s m l = add-gone s m ∙ add-none s l
 
 -- what is stored is what a run ends with that adds the constant which document 002 prints: the mask is left on the block
 pub stored-is : (w b : List ℕ) (o : ℕ)
-    → getD (maskedRecord 14 published o 1 w b) 69 [] ⊞ (mask published o 14 ⊞ shiftRows (mask published o 14)) ≡ stored o (cipher 14 w b)
+    → getD (maskedRecord 14 published (one o) 1 w b) 69 [] ⊞ (mask published (one o) 14 ⊞ shiftRows (mask published (one o) 14)) ≡ stored o (cipher 14 w b)
 unfolding points wholes maskBy cipherAt cipher
 stored-is w b o =
-    ap (λ (s : List ℕ). s ⊞ (mask published o 14 ⊞ shiftRows (mask published o 14))) (relation-cipher published o 1 w 14 b 69 (rw seventy-one (omega arith)))
-    ∙ add-change (cipher 14 w b) (shiftRows (mask published o 14)) (mask published o 14)
+    ap (λ (s : List ℕ). s ⊞ (mask published (one o) 14 ⊞ shiftRows (mask published (one o) 14))) (relation-cipher published (one o) 1 w 14 b 69 (rw seventy-one (omega arith)))
+    ∙ add-change (cipher 14 w b) (shiftRows (mask published (one o) 14)) (mask published (one o) 14)
 
 -- of what is stored of a block, the block that encrypt writes
 pub convert-standard : (w b out : List ℕ) (o : ℕ) → length w ≡ 240 → length b ≡ 16 → o ≤ 15 → convertOf (stored o (cipher 14 w b)) out o ≡ encryptOf w b out
 convert-standard w b out o lw lb lo =
     simp (
-      eq-eqb (length (stored o (cipher 14 w b))) 16 (add-sized (cipher 14 w b) (mask published o 14)),
+      eq-eqb (length (stored o (cipher 14 w b))) 16 (add-sized (cipher 14 w b) (mask published (one o) 14)),
       eq-eqb (length w) 240 lw,
       eq-eqb (length b) 16 lb,
       le-leb o 15 lo,
-      add-twice (cipher 14 w b) (mask published o 14) (cipher-size 14 w b),
+      add-twice (cipher 14 w b) (mask published (one o) 14) (cipher-size 14 w b),
     )
 
 -- and twice, what was given
@@ -55,6 +55,6 @@ convert-twice s out out′ o l lout lout′ lo =
       eq-eqb (length out) 16 lout,
       eq-eqb (length out′) 16 lout′,
       le-leb o 15 lo,
-      eq-eqb (length (s ⊞ mask published o 14)) 16 (add-sized s (mask published o 14)),
-      add-twice s (mask published o 14) l,
+      eq-eqb (length (s ⊞ mask published (one o) 14)) 16 (add-sized s (mask published (one o) 14)),
+      add-twice s (mask published (one o) 14) l,
     )

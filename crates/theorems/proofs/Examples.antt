@@ -8,7 +8,7 @@ use Rattle.aes.specs.Byte.{fromBits}
 use Rattle.aes.specs.Field.{_•_, times, xTimes, raise, inverse}
 use Rattle.aes.specs.Box.{affine, sBox}
 use Rattle.aes.specs.State.{at, state, shiftRows, mixColumns, addRoundKey, dot}
-use Rattle.masks.specs.Mask.{published, mask, maskedBox, compensation, _⊞_}
+use Rattle.masks.specs.Mask.{one, published, mask, maskedBox, compensation, _⊞_}
 use Rattle.beside.specs.Inversion.{maskedInverse}
 
 -- a byte and its value, or a state and the bytes that it begins with
@@ -44,8 +44,8 @@ examples =
     ∷ (maskedBox sBox published 1 4 0x00 is 0xb1)
     ∷ (maskedBox sBox published 1 15 0xff is 0x63)
     ∷ (mixColumns (column 0x00 0x5c 0xa3 0xff) begins four 0xb8 0xb9 0x1b 0x1a)
-    ∷ (compensation (mask published 0 0) begins four 0xb8 0xb6 0x2d 0x23)
-    ∷ (shiftRows (mask published 0 14) begins four 0xf0 0x39 0x95 0xc9)
+    ∷ (compensation (mask published (one 0) 0) begins four 0xb8 0xb6 0x2d 0x23)
+    ∷ (shiftRows (mask published (one 0) 14) begins four 0xf0 0x39 0x95 0xc9)
     ∷ (maskedInverse 0x35 0x35 is 0x35)
     ∷ (maskedInverse 0x00 0x53 is 0x99)
     ∷ []
@@ -55,6 +55,6 @@ unfolding _•_ times xTimes raise inverse fromBits affine sBox shiftRows mixCol
 examples-hold = refl
 
 -- how the last constant that document 002 prints begins at offset 0
-pub printed-begins : take 4 (mask published 0 14 ⊞ shiftRows (mask published 0 14)) ≡ four 0x00 0xc6 0x95 0xc6
+pub printed-begins : take 4 (mask published (one 0) 14 ⊞ shiftRows (mask published (one 0) 14)) ≡ four 0x00 0xc6 0x95 0xc6
 unfolding published mask shiftRows addRoundKey
 printed-begins = refl

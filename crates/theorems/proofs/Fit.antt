@@ -12,10 +12,11 @@ use Rattle.aes.specs.Byte.{_⊕_, table, below}
 use Rattle.aes.specs.State.{at, state}
 use Rattle.aes.specs.Reply.{_else_, answer}
 use Rattle.aes.proofs.Listed.{table-at}
-use Rattle.masks.specs.Mask.{published, label, mask}
+use Rattle.masks.specs.Mask.{published, one, mask}
 use Rattle.beside.specs.Fitness.{pattern, count, even, balanced, fit, fitnessOf}
 use Rattle.beside.proofs.Even.{not-so}
 use Rattle.theorems.specs.Balance.{Balanced}
+use Rattle.theorems.proofs.Records.{one-mask}
 use Rattle.theorems.proofs.Balancing.{tested-balanced, balanced-tested, balanced-same, balanced-xor, balanced-turn}
 
 value-one : (a b : Bool) → answer {A = ℕ} ((a else 5) ∷ []) 0 (cond b 1 0) .1 ≡ 1 → T a × T b
@@ -40,11 +41,11 @@ state-fit : (g : ℕ → ℕ) → Balanced g → fitnessOf (state g) ≡ (0, 1)
 unfolding table
 state-fit g b = balanced-fit (state g) refl (balanced-same _ g (table-at g 16) b)
 
-pub turned-fit : (masks : List ℕ) (o k : ℕ) → fitnessOf masks .1 ≡ 1 → fitnessOf (mask masks o k) ≡ (0, 1)
-unfolding mask
+pub turned-fit : (masks : List ℕ) (o k : ℕ) → fitnessOf masks .1 ≡ 1 → fitnessOf (mask masks (one o) k) ≡ (0, 1)
 turned-fit masks o k e =
-    state-fit (λ i. at masks (label o k i))
-    (balanced-same _ (λ i. at masks ((i + (o + k)) % 16)) (λ i h. ap (at masks) (omega arith)) (balanced-turn (at masks) (fit-balanced masks e .1) (o + k)))
+    rw (one-mask masks o k)
+    (state-fit (λ i. at masks ((o + i + k) % 16))
+    (balanced-same _ (λ i. at masks ((i + (o + k)) % 16)) (λ i h. ap (at masks) (omega arith)) (balanced-turn (at masks) (fit-balanced masks e .1) (o + k))))
 
 pub added-fit : (masks : List ℕ) (c : ℕ) → fitnessOf masks .1 ≡ 1 → fitnessOf (state (λ i. c ⊕ at masks i)) ≡ (0, 1)
 added-fit masks c e = state-fit (λ i. c ⊕ at masks i) (balanced-xor c (at masks) (fit-balanced masks e .1))

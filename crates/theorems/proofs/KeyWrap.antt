@@ -18,7 +18,7 @@ use Rattle.aes.specs.Reply.{Check, _else_, answer, isFullSchedule, isOffset, is
 use Rattle.aes.proofs.Below.{under}
 use Rattle.aes.proofs.Listed.{table-at}
 use Rattle.aes.proofs.Replies.{AllHold, telling, done-holds, holds-done}
-use Rattle.masks.specs.Mask.{published}
+use Rattle.masks.specs.Mask.{published, one}
 use Rattle.buffer.specs.Wrap.{initial, wrapped, unwrapped}
 use Rattle.wrap.specs.Calls.{wrapBy, unwrapBy, wrapOf, unwrapOf}
 use Rattle.wrap.proofs.Checked.{Sizes, held-sizes}
@@ -33,12 +33,12 @@ use Rattle.theorems.proofs.WrapTrip.{at-small, small-append, small-list
 pub wrap-is : (v : Wrapper) → Within v → (w keys out : List ℕ) → wrapsTo v w keys out ≡ wrapOf w keys out
 wrap-is plain h w keys out = refl
 wrap-is (masked o) h w keys out =
-    ap (λ (E : List ℕ → List ℕ). wrapBy E (isFullSchedule w ∷ isOffset o ∷ []) keys out) (λ i b. masked-cipher published o 1 w 13 b i) ∙ simp (le-leb o 15 h)
+    ap (λ (E : List ℕ → List ℕ). wrapBy E (isFullSchedule w ∷ isOffset o ∷ []) keys out) (λ i b. masked-cipher published (one o) 1 w 13 b i) ∙ simp (le-leb o 15 h)
 
 pub unwrap-is : (v : Wrapper) → Within v → (w sealed keys : List ℕ) → unwrapsTo v w sealed keys ≡ unwrapOf w sealed keys
 unwrap-is plain h w sealed keys = refl
 unwrap-is (masked o) h w sealed keys =
-    ap (λ (D : List ℕ → List ℕ). unwrapBy D (isFullSchedule w ∷ isOffset o ∷ []) sealed keys) (λ i b. masked-inv-cipher published o 1 w 14 b i) ∙ simp (le-leb o 15 h)
+    ap (λ (D : List ℕ → List ℕ). unwrapBy D (isFullSchedule w ∷ isOffset o ∷ []) sealed keys) (λ i b. masked-inv-cipher published (one o) 1 w 14 b i) ∙ simp (le-leb o 15 h)
 
 -- the register is the initial value where its check holds, and only there
 abbrev same : List ℕ → Bool

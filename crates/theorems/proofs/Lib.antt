@@ -6,6 +6,7 @@ pub mod Converted
 pub mod Cover
 pub mod AnyMasks
 pub mod Relation
+pub mod Records
 pub mod Result
 pub mod ManyBlocks
 pub mod Balancing
@@ -25,6 +26,7 @@ pub mod BackResult
 pub mod Trips
 pub mod BackStates
 pub mod BackBalance
+pub mod OneOffset
 pub mod BackOrder
 pub mod WrapTrip
 pub mod KeyWrap

@@ -4,16 +4,15 @@ use mathlib.Core.Path.{_≡_, refl, ap}
 use mathlib.Core.Bool.{true, false}
 use mathlib.Core.List.{List, [], _∷_}
 use Prim.Native.Nat.{ℕ, _/_}
-use lib.Dec.{leb, eqb→eq, leb→le}
 use lib.ListN.{length}
 use Rattle.aes.specs.State.{at}
 use Rattle.aes.specs.Reply.{Check, _else_, answer}
 use Rattle.aes.specs.Calls.{encryptOf}
-use Rattle.aes.proofs.Below.{under}
 use Rattle.aes.proofs.Replies.{AllHold}
-use Rattle.masks.specs.Mask.{inRow}
+use Rattle.masks.specs.Mask.{one, inRow}
 use Rattle.masked.specs.Calls.{blockAt, blocksChecks, encryptBlocksOf}
 use Rattle.masks.proofs.Row.{row-same}
+use Rattle.theorems.proofs.Records.{one-offsets}
 use Rattle.theorems.proofs.Result.{encrypt-published-is}
 
 -- what is done matters only where every check holds
@@ -30,9 +29,7 @@ unfolding AllHold
 encrypt-blocks-is w b out offsets d =
     done-same out _ _ (blocksChecks w b out offsets d 0)
     (λ h.
-    let n : length offsets ≡ length b / 16 = eqb→eq (length offsets) (length b / 16) (h .1 .1 .1 .0) in
-    let low = under (λ j. leb (at offsets j) 15) (length offsets) (h .1 .1 .1 .1 .0) in
     row-same _ _ (length b / 16)
     (λ k lt.
     ap (λ (r : ℕ × List ℕ). r .1)
-    (encrypt-published-is w (blockAt k b) (blockAt k out) (at offsets k) d (leb→le (at offsets k) 15 (low k (rw n lt))) (h .1 .1 .1 .1 .1 .0))))
+    (encrypt-published-is w (blockAt k b) (blockAt k out) (one (at offsets k)) d (one-offsets (at offsets k)) (h .1 .1 .1 .1 .1 .0))))

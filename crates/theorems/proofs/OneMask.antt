@@ -3,11 +3,12 @@
 use mathlib.Core.Path.{_≡_, ap, _∙_}
 use mathlib.Core.List.{List}
 use Prim.Native.Nat.{ℕ, _+_, _*_, _/_, _%_, _<_}
-use native.Mathlib.Nat.{add-assoc}
 use native.Mathlib.Omega.{arith}
 use Rattle.aes.specs.Byte.{_⊕_, table}
 use Rattle.aes.specs.State.{at, cell, ahead, behind, shiftRows, invShiftRows}
 use Rattle.aes.proofs.Listed.{table-at}
+use Rattle.masks.specs.Mask.{advanced}
+use Rattle.masks.proofs.Counted.{label-on}
 use Rattle.theorems.specs.MaskTable.{stepping}
 use Rattle.theorems.specs.Balance.{Balanced}
 use Rattle.theorems.proofs.Relation.{mask-entry}
@@ -20,15 +21,19 @@ pub record OneMask {P : Type 0} (mask : (ℕ → List ℕ) → P → List ℕ) (
   pub within : place < 16
   pub same : (K : ℕ → List ℕ) → at (mask K p) i ≡ at (K round) place
 
--- so its label is as far from the offset at all sixteen of them
-pub one-balance : {P : Type 0} {mask : (ℕ → List ℕ) → P → List ℕ} {p : P} {i : ℕ} (M : List ℕ) → Balanced (at M) → (d : ℕ) → OneMask mask p i
-    → (f : ℕ → ℕ) (c : ℕ) → ((o : ℕ) → o < 16 → f o ≡ c ⊕ at (mask (stepping M o d) p) i) → Balanced f
-one-balance M b d u f c e =
-    let l : ℕ = u .place + d * u .round in
-    balanced-same f (λ o. c ⊕ at M ((o + l) % 16))
+-- so its label is as far on from a record at all sixteen records that are on from it
+pub one-balance : {P : Type 0} {mask : (ℕ → List ℕ) → P → List ℕ} {p : P} {i : ℕ} (M : List ℕ) → Balanced (at M) → (v : List ℕ) (d : ℕ) → OneMask mask p i
+    → (f : ℕ → ℕ) (c : ℕ) → ((o : ℕ) → o < 16 → f o ≡ c ⊕ at (mask (stepping M (advanced v o) d) p) i) → Balanced f
+one-balance M b v d u f c e =
+    let k : ℕ = d * u .round in
+    let a : ℕ = at v (u .place) in
+    balanced-same f (λ o. c ⊕ at M ((o + (a + k)) % 16))
     (λ o h. e o h
-    ∙ ap (λ (x : ℕ). c ⊕ x) (u .same (stepping M o d) ∙ mask-entry M o (d * u .round) (u .place) (u .within) ∙ ap (λ (n : ℕ). at M (n % 16)) (add-assoc o (u .place) (d * u .round))))
-    (balanced-xor c (λ o. at M ((o + l) % 16)) (balanced-turn (at M) b l))
+    ∙ ap (λ (x : ℕ). c ⊕ x) (u .same (stepping M (advanced v o) d) ∙ mask-entry M (advanced v o) k (u .place) (u .within) ∙ ap (at M) (label-on v o k (u .place) (u .within) ∙ far a o k)))
+    (balanced-xor c (λ o. at M ((o + (a + k)) % 16)) (balanced-turn (at M) b (a + k)))
+  where
+    far : (a o k : ℕ) → (a + (o + k)) % 16 ≡ (o + (a + k)) % 16
+    far a o k = omega arith
 
 -- the mask of round r as it is, or moved by SHIFTROWS or INVSHIFTROWS
 left : ℕ → ℕ

@@ -2,9 +2,9 @@
 -- Assumes nothing.
 use mathlib.Core.Path.{_≡_, refl, sym, _∙_}
 use mathlib.Core.List.{List, [], map}
-use Prim.Native.Nat.{ℕ, _+_, _*_, _<_, _≤_}
+use Prim.Native.Nat.{ℕ, _+_, _*_, _<_}
 use native.Mathlib.Decide.{ℕ-discrete}
-use borrow.Author.Tests.{eq-eqb, ne-eqb, le-leb}
+use borrow.Author.Tests.{eq-eqb, ne-eqb}
 use lib.Dec.{T, lit<}
 use lib.ListN.{length, getD}
 use Rattle.aes.specs.Byte.{_⊕_}
@@ -16,15 +16,17 @@ use Rattle.aes.specs.Calls.{encryptOf, recordPlainOf}
 use Rattle.aes.proofs.PlainRun.{plain-sized}
 use Rattle.masks.specs.Mask.{_⊞_, published}
 use Rattle.runs.specs.Run.{maskedRecord}
+use Rattle.theorems.specs.Ways.{Offsets}
 use Rattle.masked.specs.Calls.{blockAt, recordMaskedOf}
 use Rattle.theorems.specs.MaskTable.{bare, maskBy, maskAt}
 use Rattle.theorems.proofs.States.{Sizes, run-sizes, summed-sizes, state-in, byte-in}
 use Rattle.theorems.proofs.CallLaws.{cipher-size}
 use Rattle.theorems.proofs.Relation.{plain-at, relation, relation-cipher}
 use Rattle.theorems.proofs.Result.{is-true, add-none, zero-masks}
+use Rattle.theorems.proofs.Records.{low-offsets}
 
-masked-sizes : (M : List ℕ) (o d : ℕ) (w : List ℕ) (nr : ℕ) (b : List ℕ) → Sizes (maskedRecord nr M o d w b)
-masked-sizes M o d w nr b = rw (relation M o d w nr b) (summed-sizes (plainRecord nr w b) (map (maskAt M o d) (points nr)))
+masked-sizes : (M v : List ℕ) (d : ℕ) (w : List ℕ) (nr : ℕ) (b : List ℕ) → Sizes (maskedRecord nr M v d w b)
+masked-sizes M v d w nr b = rw (relation M v d w nr b) (summed-sizes (plainRecord nr w b) (map (maskAt M v d) (points nr)))
 
 pub published-length : length published ≡ 16
 unfolding published
@@ -54,30 +56,30 @@ module _ (w b states : List ℕ) (lw : length w ≡ 240) (lb : length b ≡ 16) 
   pub plain-last : (out : List ℕ) → length out ≡ 16 → blockAt 70 (recordPlainOf w b states .1) ≡ encryptOf w b out .1
   plain-last out lo = plain-state 70 (lit< tt) ∙ rw point-70 (sym (cipher-is out lo))
 
-  module _ (M : List ℕ) (lm : length M ≡ 16) (o : ℕ) (ho : o ≤ 15) (d : ℕ) (t : T (taken d)) where
+  module _ (M : List ℕ) (lm : length M ≡ 16) (v : List ℕ) (hv : Offsets v) (d : ℕ) (t : T (taken d)) where
     -- and what record_masked writes is the masked record
-    pub masked-states : (q : ℕ) → blockAt q (recordMaskedOf w b M o d states .1) ≡ getD (maskedRecord 14 M o d w b) q []
+    pub masked-states : (q : ℕ) → blockAt q (recordMaskedOf w b M v d states .1) ≡ getD (maskedRecord 14 M v d w b) q []
     masked-states q =
-        simp (eq-eqb (length w) 240 lw, eq-eqb (length b) 16 lb, eq-eqb (length M) 16 lm, le-leb o 15 ho, is-true (taken d) t, eq-eqb (length states) 1136 ls)
-        (state-in (maskedRecord 14 M o d w b) (masked-sizes M o d w 14 b) q)
+        simp (eq-eqb (length w) 240 lw, eq-eqb (length b) 16 lb, eq-eqb (length M) 16 lm, eq-eqb (length v) 16 (hv .0), low-offsets v hv, is-true (taken d) t, eq-eqb (length states) 1136 ls)
+        (state-in (maskedRecord 14 M v d w b) (masked-sizes M v d w 14 b) q)
 
     -- so its state q is that of CIPHER under the mask that the mask table has there
     pub masked-state : (q : ℕ) → q < 71
-        → blockAt q (recordMaskedOf w b M o d states .1) ≡ cipherAt w b (getD (points 14) q block) ⊞ maskAt M o d (getD (points 14) q block)
-    masked-state q hq = masked-states q ∙ relation-cipher M o d w 14 b q (rw seventy-one hq)
+        → blockAt q (recordMaskedOf w b M v d states .1) ≡ cipherAt w b (getD (points 14) q block) ⊞ maskAt M v d (getD (points 14) q block)
+    masked-state q hq = masked-states q ∙ relation-cipher M v d w 14 b q (rw seventy-one hq)
 
-    pub masked-last : (out : List ℕ) → length out ≡ 16 → blockAt 70 (recordMaskedOf w b M o d states .1) ≡ encryptOf w b out .1
+    pub masked-last : (out : List ℕ) → length out ≡ 16 → blockAt 70 (recordMaskedOf w b M v d states .1) ≡ encryptOf w b out .1
     unfolding maskBy cipherAt
     masked-last out lo = masked-state 70 (lit< tt) ∙ rw point-70 (add-none (cipher 14 w b) (cipher-size 14 w b) ∙ sym (cipher-is out lo))
 
     pub record-byte : (q i : ℕ) → q < 71 → i < 16
-        → at (recordMaskedOf w b M o d states .1) (16 * q + i) ≡ at (cipherAt w b (getD (points 14) q block)) i ⊕ at (maskAt M o d (getD (points 14) q block)) i
-    record-byte q i hq hi = byte-in (recordMaskedOf w b M o d states .1) _ _ q i hi (masked-state q hq)
+        → at (recordMaskedOf w b M v d states .1) (16 * q + i) ≡ at (cipherAt w b (getD (points 14) q block)) i ⊕ at (maskAt M v d (getD (points 14) q block)) i
+    record-byte q i hq hi = byte-in (recordMaskedOf w b M v d states .1) _ _ q i hi (masked-state q hq)
 
 -- with sixteen masks 00 record_masked answers as record_plain does, and writes what it writes
-pub zero-record : (w b states : List ℕ) (o d : ℕ) → o ≤ 15 → T (taken d) → recordMaskedOf w b bare o d states ≡ recordPlainOf w b states
-zero-record w b states o d ho t =
+pub zero-record : (w b states v : List ℕ) (d : ℕ) → Offsets v → T (taken d) → recordMaskedOf w b bare v d states ≡ recordPlainOf w b states
+zero-record w b states v d hv t =
     elim (ℕ-discrete (length b) 16) [
-      | yes e ↦ simp (le-leb o 15 ho, is-true (taken d) t, zero-masks o d w 14 b e)
+      | yes e ↦ simp (eq-eqb (length v) 16 (hv .0), low-offsets v hv, is-true (taken d) t, zero-masks v d w 14 b e)
       | no e ↦ simp (ne-eqb (length b) 16 e)
     ]

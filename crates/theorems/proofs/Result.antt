@@ -1,12 +1,12 @@
--- What a masked run ends with: the ciphertext of FIPS 197, whatever the masks and the offset are.
+-- What a masked run ends with: the ciphertext of FIPS 197, whatever the masks, the offsets and the step are.
 -- Assumes nothing.
 use mathlib.Core.Path.{_≡_, refl, sym, ap, _∙_}
 use mathlib.Core.Bool.{Bool, true, false}
 use mathlib.Core.List.{List, [], _∷_, _++_, map}
-use Prim.Native.Nat.{ℕ, suc, _-_, _*_, _≤_}
+use Prim.Native.Nat.{ℕ, suc, _-_, _*_}
 use native.Mathlib.Decide.{decLt}
 use native.Mathlib.Omega.{arith}
-use borrow.Author.Tests.{eq-eqb, le-leb}
+use borrow.Author.Tests.{eq-eqb}
 use lib.Dec.{T}
 use lib.ListN.{length, List·getD-eq-default}
 use Rattle.aes.specs.Byte.{table}
@@ -23,11 +23,13 @@ use Rattle.aes.proofs.PlainRun.{plain-sized}
 use Rattle.masks.specs.Mask.{published, _⊞_, mask}
 use Rattle.runs.specs.Run.{maskedRecord, maskedCipher}
 use Rattle.theorems.specs.MaskTable.{bare, maskBy, maskAt, summed}
+use Rattle.theorems.specs.Ways.{Offsets}
 use Rattle.masked.specs.Calls.{encryptMaskedOf, encryptPublishedOf}
 use Rattle.theorems.proofs.CallLaws.{cipher-size}
 use Rattle.theorems.proofs.PlainRecord.{record-last}
 use Rattle.theorems.proofs.Cover.{last-map, last-summed}
 use Rattle.theorems.proofs.Relation.{relation}
+use Rattle.theorems.proofs.Records.{low-offsets}
 
 -- what holds is true
 pub is-true : (b : Bool) → T b → b ≡ true
@@ -35,38 +37,38 @@ is-true true t = refl
 is-true false t = absurd t
 
 -- no mask lies on the finished block
-last-mask : (M : List ℕ) (o d n : ℕ) (m : List ℕ) → last m (map (maskAt M o d) (points (suc n))) ≡ bare
+last-mask : (M v : List ℕ) (d n : ℕ) (m : List ℕ) → last m (map (maskAt M v d) (points (suc n))) ≡ bare
 unfolding points last maskBy
-last-mask M o d n m = let e : suc n - 1 ≡ n = omega arith in rw e (last-map (maskAt M o d) (block ∷ wholes n) (final n) m)
+last-mask M v d n m = let e : suc n - 1 ≡ n = omega arith in rw e (last-map (maskAt M v d) (block ∷ wholes n) (final n) m)
 
-last-state : (M : List ℕ) (o d : ℕ) (w : List ℕ) (nr : ℕ) (b : List ℕ)
-    → last b (summed (plainRecord nr w b) (map (maskAt M o d) (points nr))) ≡ last b (plainRecord nr w b) ⊞ last b (map (maskAt M o d) (points nr))
+last-state : (M v : List ℕ) (d : ℕ) (w : List ℕ) (nr : ℕ) (b : List ℕ)
+    → last b (summed (plainRecord nr w b) (map (maskAt M v d) (points nr))) ≡ last b (plainRecord nr w b) ⊞ last b (map (maskAt M v d) (points nr))
 unfolding points run summed last plain plainRecord maskBy
-last-state M o d w nr b = last-summed (plain w) (maskAt M o d) (wholes (nr - 1) ++ final (nr - 1)) (mask M o (d * 0)) b
+last-state M v d w nr b = last-summed (plain w) (maskAt M v d) (wholes (nr - 1) ++ final (nr - 1)) (mask M v (d * 0)) b
 
 -- nothing is left by no mask
 pub add-none : (s : List ℕ) → length s ≡ 16 → s ⊞ bare ≡ s
 unfolding addRoundKey
 add-none s l = simp xor-zero (state-at s l)
 
-pub masked-cipher : (M : List ℕ) (o d : ℕ) (w : List ℕ) (n : ℕ) (b : List ℕ) → maskedCipher (suc n) M o d w b ≡ cipher (suc n) w b
+pub masked-cipher : (M v : List ℕ) (d : ℕ) (w : List ℕ) (n : ℕ) (b : List ℕ) → maskedCipher (suc n) M v d w b ≡ cipher (suc n) w b
 unfolding maskedCipher
-masked-cipher M o d w n b =
-    rw (relation M o d w (suc n) b, last-state M o d w (suc n) b, record-last w b n, last-mask M o d n b)
+masked-cipher M v d w n b =
+    rw (relation M v d w (suc n) b, last-state M v d w (suc n) b, record-last w b n, last-mask M v d n b)
     (add-none (cipher (suc n) w b) (cipher-size (suc n) w b))
 
-pub offset-free : (M M′ : List ℕ) (o o′ d d′ : ℕ) (w : List ℕ) (n : ℕ) (b : List ℕ)
-    → maskedCipher (suc n) M o d w b ≡ maskedCipher (suc n) M′ o′ d′ w b
-offset-free M M′ o o′ d d′ w n b = masked-cipher M o d w n b ∙ sym (masked-cipher M′ o′ d′ w n b)
+pub offset-free : (M M′ v v′ : List ℕ) (d d′ : ℕ) (w : List ℕ) (n : ℕ) (b : List ℕ)
+    → maskedCipher (suc n) M v d w b ≡ maskedCipher (suc n) M′ v′ d′ w b
+offset-free M M′ v v′ d d′ w n b = masked-cipher M v d w n b ∙ sym (masked-cipher M′ v′ d′ w n b)
 
 -- sixteen masks that are all zero: the masked states are the plain ones
 zero-at : (k : ℕ) → at bare k ≡ 0
 unfolding table
 zero-at k = elim (decLt k 16) [ yes q ↦ table-at (λ i. 0) 16 k q | no q ↦ List·getD-eq-default bare 0 {n = k} (omega arith) ]
 
-zero-mask : (o k : ℕ) → mask bare o k ≡ bare
+zero-mask : (v : List ℕ) (k : ℕ) → mask bare v k ≡ bare
 unfolding mask
-zero-mask o k = simp zero-at
+zero-mask v k = simp zero-at
 
 shifted-none : shiftRows bare ≡ bare
 unfolding shiftRows
@@ -76,32 +78,33 @@ mixed-none : mixColumns bare ≡ bare
 unfolding mixColumns dot _•_ times xTimes
 mixed-none = refl
 
-maskAt-bare : (o d : ℕ) (p : Point) → maskAt bare o d p ≡ bare
+maskAt-bare : (v : List ℕ) (d : ℕ) (p : Point) → maskAt bare v d p ≡ bare
 unfolding maskBy
-maskAt-bare o d block = zero-mask o (d * 0)
-maskAt-bare o d (keyed r) = zero-mask o (d * r)
-maskAt-bare o d (boxed r) = zero-mask o (d * suc r)
-maskAt-bare o d (shifted r) = rw zero-mask shifted-none
-maskAt-bare o d (mixed r) = rw (zero-mask, shifted-none) mixed-none
-maskAt-bare o d (compensated r) = zero-mask o (d * suc r)
-maskAt-bare o d (closed r) = rw zero-mask shifted-none
-maskAt-bare o d (uncovered r) = refl
+maskAt-bare v d block = zero-mask v (d * 0)
+maskAt-bare v d (keyed r) = zero-mask v (d * r)
+maskAt-bare v d (boxed r) = zero-mask v (d * suc r)
+maskAt-bare v d (shifted r) = rw zero-mask shifted-none
+maskAt-bare v d (mixed r) = rw (zero-mask, shifted-none) mixed-none
+maskAt-bare v d (compensated r) = zero-mask v (d * suc r)
+maskAt-bare v d (closed r) = rw zero-mask shifted-none
+maskAt-bare v d (uncovered r) = refl
 
-summed-bare : (o d : ℕ) (w : List ℕ) (ps : List Point) (s : List ℕ) → length s ≡ 16
-    → summed (run (plain w) s ps) (map (maskAt bare o d) ps) ≡ run (plain w) s ps
+summed-bare : (v : List ℕ) (d : ℕ) (w : List ℕ) (ps : List Point) (s : List ℕ) → length s ≡ 16
+    → summed (run (plain w) s ps) (map (maskAt bare v d) ps) ≡ run (plain w) s ps
 unfolding run summed
-summed-bare o d w [] s l = refl
-summed-bare o d w (p ∷ ps) s l =
+summed-bare v d w [] s l = refl
+summed-bare v d w (p ∷ ps) s l =
     let h : length (plain w p s) ≡ 16 = plain-sized w p s l in
-    rw (maskAt-bare o d p, add-none (plain w p s) h) (ap (λ (u : List (List ℕ)). plain w p s ∷ u) (summed-bare o d w ps (plain w p s) h))
+    rw (maskAt-bare v d p, add-none (plain w p s) h) (ap (λ (u : List (List ℕ)). plain w p s ∷ u) (summed-bare v d w ps (plain w p s) h))
 
-pub zero-masks : (o d : ℕ) (w : List ℕ) (nr : ℕ) (b : List ℕ) → length b ≡ 16 → maskedRecord nr bare o d w b ≡ plainRecord nr w b
+pub zero-masks : (v : List ℕ) (d : ℕ) (w : List ℕ) (nr : ℕ) (b : List ℕ) → length b ≡ 16 → maskedRecord nr bare v d w b ≡ plainRecord nr w b
 unfolding plainRecord
-zero-masks o d w nr b l = relation bare o d w nr b ∙ summed-bare o d w (points nr) b l
+zero-masks v d w nr b l = relation bare v d w nr b ∙ summed-bare v d w (points nr) b l
 
--- At the calls: whatever the masks, the offset and the step are, they write what the plain call writes.
-pub encrypt-masked-is : (w b out M : List ℕ) (o d : ℕ) → length M ≡ 16 → o ≤ 15 → T (taken d) → encryptMaskedOf w b out M o d 0 ≡ encryptOf w b out
-encrypt-masked-is w b out M o d lm lo t = simp (eq-eqb (length M) 16 lm, le-leb o 15 lo, is-true (taken d) t, masked-cipher M o d w 13 b)
+-- At the calls: whatever the masks, the offsets and the step are, they write what the plain call writes.
+pub encrypt-masked-is : (w b out M v : List ℕ) (d : ℕ) → length M ≡ 16 → Offsets v → T (taken d) → encryptMaskedOf w b out M v d 0 ≡ encryptOf w b out
+encrypt-masked-is w b out M v d lm h t =
+    simp (eq-eqb (length M) 16 lm, eq-eqb (length v) 16 (h .0), low-offsets v h, is-true (taken d) t, masked-cipher M v d w 13 b)
 
-pub encrypt-published-is : (w b out : List ℕ) (o d : ℕ) → o ≤ 15 → T (taken d) → encryptPublishedOf w b out o d 0 ≡ encryptOf w b out
-encrypt-published-is w b out o d lo t = simp (le-leb o 15 lo, is-true (taken d) t, masked-cipher published o d w 13 b)
+pub encrypt-published-is : (w b out v : List ℕ) (d : ℕ) → Offsets v → T (taken d) → encryptPublishedOf w b out v d 0 ≡ encryptOf w b out
+encrypt-published-is w b out v d h t = simp (eq-eqb (length v) 16 (h .0), low-offsets v h, is-true (taken d) t, masked-cipher published v d w 13 b)

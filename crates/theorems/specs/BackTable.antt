@@ -21,8 +21,8 @@ maskBackBy K (unmixed r) = invMixColumns (K (suc r))
 maskBackBy K (restored r) = K (suc r)
 maskBackBy K (uncovered r) = bare
 
-abbrev pub maskBackAt : List ℕ → ℕ → ℕ → Back → List ℕ
-maskBackAt M o d = maskBackBy (stepping M o d)
+abbrev pub maskBackAt : List ℕ → List ℕ → ℕ → Back → List ℕ
+maskBackAt M v d = maskBackBy (stepping M v d)
 
 -- INVCIPHER, which skips covering, corrections and uncovering: there the state is the input, or that of the point before
 unfoldable pub plainBack : ℕ → List ℕ → Back → List ℕ → List ℕ

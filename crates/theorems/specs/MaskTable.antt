@@ -21,12 +21,12 @@ maskBy K (compensated r) = K (suc r)
 maskBy K (closed r) = shiftRows (K (suc r))
 maskBy K (uncovered r) = bare
 
--- the sequence of a run at offset o over the masks M, whose labels advance by d from round to round, and so its mask at each point
-abbrev pub stepping : List ℕ → ℕ → ℕ → ℕ → List ℕ
-stepping M o d r = mask M o (d * r)
+-- the sequence of a run at the offsets v over the masks M, whose labels advance by d from round to round, and so its mask at each point
+abbrev pub stepping : List ℕ → List ℕ → ℕ → ℕ → List ℕ
+stepping M v d r = mask M v (d * r)
 
-abbrev pub maskAt : List ℕ → ℕ → ℕ → Point → List ℕ
-maskAt M o d = maskBy (stepping M o d)
+abbrev pub maskAt : List ℕ → List ℕ → ℕ → Point → List ℕ
+maskAt M v d = maskBy (stepping M v d)
 
 -- two records, state by state
 unfoldable pub summed : List (List ℕ) → List (List ℕ) → List (List ℕ)

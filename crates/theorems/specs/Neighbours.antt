@@ -23,12 +23,12 @@ betweenRecorded order written q k = between order (blockAt q written) (blockAt (
 abbrev pub betweenBare : List ℕ → List ℕ → List ℕ → ℕ → ℕ → ℕ
 betweenBare order w input r k = between order (cipherAt w input (keyed r)) (cipherAt w input (boxed r)) k
 
-abbrev pub betweenMasks : List ℕ → List ℕ → ℕ → ℕ → ℕ → ℕ → ℕ
-betweenMasks order M o d r k = between order (maskAt M o d (keyed r)) (maskAt M o d (boxed r)) k
+abbrev pub betweenMasks : List ℕ → List ℕ → List ℕ → ℕ → ℕ → ℕ → ℕ
+betweenMasks order M v d r k = between order (maskAt M v d (keyed r)) (maskAt M v d (boxed r)) k
 
 -- both of a decryption of nr rounds: bare, of INVCIPHER, and of the masks
 abbrev pub betweenBareBack : List ℕ → ℕ → List ℕ → List ℕ → ℕ → ℕ → ℕ
 betweenBareBack order nr w input r k = between order (invCipherAt nr w input (corrected r)) (invCipherAt nr w input (unboxed r)) k
 
-abbrev pub betweenMasksBack : List ℕ → List ℕ → ℕ → ℕ → ℕ → ℕ → ℕ
-betweenMasksBack order M o d r k = between order (maskBackAt M o d (corrected r)) (maskBackAt M o d (unboxed r)) k
+abbrev pub betweenMasksBack : List ℕ → List ℕ → List ℕ → ℕ → ℕ → ℕ → ℕ
+betweenMasksBack order M v d r k = between order (maskBackAt M v d (corrected r)) (maskBackAt M v d (unboxed r)) k

@@ -2,6 +2,7 @@
 
 use super::{Direction, Point, Stage};
 use crate::masks::{Masks, Offset, Step};
+use crate::offsets::Offsets;
 use crate::schedule::{Block, Schedule};
 use std::array::from_fn;
 
@@ -36,17 +37,21 @@ fn plain(direction: Direction, point: Point) -> Block {
     }
 }
 
-/// The sixteen bytes that a mask's name stands for.
-fn named(name: &str, masks: &Masks) -> Block {
+/// The sixteen bytes that a mask's name stands for: Mask(7) has label 7 + i at byte i, and Mask(o+4) the offset there and 4.
+fn named(name: &str, masks: &Masks, offsets: &Offsets) -> Block {
     if name == "none" {
         return [0; 16];
     }
     let (function, inside) = name.strip_suffix(')').and_then(|name| name.split_once('(')).expect(name);
     if function == "Mask" {
-        let label: usize = inside.parse().expect(name);
-        return from_fn(|i| masks.as_bytes()[(label + i) % 16]);
+        let (own, on) = match inside.strip_prefix('o') {
+            Some(on) => (true, on.strip_prefix('+').unwrap_or("0")),
+            None => (false, inside),
+        };
+        let (on, places) = (on.parse::<usize>().expect(name), offsets.as_bytes());
+        return from_fn(|i| masks.as_bytes()[(on + if own { places[i].into() } else { i }) % 16]);
     }
-    let inside = named(inside, masks);
+    let inside = named(inside, masks, offsets);
     match function {
         "ShiftRows" => from_fn(|i| inside[(i + 4 * (i % 4)) % 16]),
         "InvShiftRows" => from_fn(|i| inside[(i + 12 * (i % 4)) % 16]),
@@ -75,16 +80,17 @@ fn every_state_is_the_standard_s_under_the_mask_that_is_named() {
     for direction in [Direction::Encryption, Direction::Decryption] {
         let plain: Vec<(Point, Block)> = direction.points().map(|point| (point, plain(direction, point))).collect();
         for (offset, step) in Offset::all().flat_map(|offset| Step::all().map(move |step| (offset, step))) {
-            for masks in [Masks::PUBLISHED, others] {
+            let mixed = Offsets::new(from_fn(|i| ((usize::from(offset.number()) + 5 * i * i + 3 * i) % 16) as u8)).unwrap();
+            for (masks, offsets) in [(Masks::PUBLISHED, Offsets::one(offset)), (others, Offsets::one(offset)), (others, mixed)] {
                 let record = match direction {
-                    Direction::Encryption => schedule.record_masked(&plaintext, &masks, offset, step),
-                    Direction::Decryption => schedule.record_masked_decryption(&ciphertext, &masks, offset, step),
+                    Direction::Encryption => schedule.record_masked(&plaintext, &masks, offsets, step),
+                    Direction::Decryption => schedule.record_masked_decryption(&ciphertext, &masks, offsets, step),
                 };
                 assert_eq!((record.direction(), record.as_bytes().len()), (direction, 16 * plain.len()));
                 for ((point, state), (its, covered)) in plain.iter().zip(record.states()) {
-                    let mask = named(&point.mask(offset, step), &masks);
+                    let mask = named(&point.mask(offsets, step), &masks, &offsets);
                     let expected: Block = from_fn(|i| state[i] ^ mask[i]);
-                    assert_eq!((its, covered), (*point, &expected), "{point}, offset {offset:?}, {step:?}");
+                    assert_eq!((its, covered), (*point, &expected), "{point}, {offsets:?}, {step:?}");
                 }
             }
         }

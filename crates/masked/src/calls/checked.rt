@@ -11,11 +11,11 @@ pub(crate) fn refusal(
     input: &[u8],
     output: &[u8],
     masks: &[u8],
-    offset: u8,
+    offsets: &[u8],
     step: u8,
     form: u8,
 ) -> u8
-    ensures { λ r. ⌜ r ≡ refusal (checks (now (schedule .entry)) (now (input .entry)) (now (output .entry)) (now (masks .entry)) offset step form) ⌝ }
+    ensures { λ r. ⌜ r ≡ refusal (checks (now (schedule .entry)) (now (input .entry)) (now (output .entry)) (now (masks .entry)) (now (offsets .entry)) step form) ⌝ }
 {
     if schedule.len() != 240 {
         return reply::SCHEDULE_LENGTH;
@@ -29,10 +29,10 @@ pub(crate) fn refusal(
     if masks.len() != 16 {
         return reply::MASKS_LENGTH;
     }
-    if 15 < offset {
-        return reply::OFFSET_RANGE;
+    if offsets.len() != 16 {
+        return reply::OFFSET_PER_BYTE;
     }
-    chosen::refusal(step, form)
+    chosen::offsets_refusal(offsets, step, form)
 }
 
 // The same of a record that is to have so many bytes. No output is lent: the input, of which the same length is asked, stands for it.
@@ -40,14 +40,14 @@ pub(crate) fn record_refusal(
     schedule: &[u8],
     input: &[u8],
     masks: &[u8],
-    offset: u8,
+    offsets: &[u8],
     step: u8,
     states: &[u8],
     size: usize,
 ) -> u8
-    ensures { λ r. ⌜ r ≡ refusal (recordChecks size (now (schedule .entry)) (now (input .entry)) (now (masks .entry)) offset step (now (states .entry))) ⌝ }
+    ensures { λ r. ⌜ r ≡ refusal (recordChecks size (now (schedule .entry)) (now (input .entry)) (now (masks .entry)) (now (offsets .entry)) step (now (states .entry))) ⌝ }
 {
-    let refusal = refusal(schedule, input, input, masks, offset, step, 0);
+    let refusal = refusal(schedule, input, input, masks, offsets, step, 0);
     if refusal != reply::DONE {
         return refusal;
     }

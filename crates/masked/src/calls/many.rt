@@ -1,20 +1,19 @@
 // Masked encryption of many blocks with the published masks, each at its own offset. Masks, boxes and compensations are made
 // once.
 ghost use mathlib.Core.Path.{_≡_};
-ghost use mathlib.Core.List.{[], _∷_};
-ghost use Prim.Native.Nat.{_*_, _<_};
+ghost use Prim.Native.Nat.{_*_};
 ghost use lib.ListN.{length};
-ghost use Rattle.aes.specs.State.{at};
-ghost use Rattle.aes.specs.Reply.{areOffsets, isStep, isForm, refusal};
+ghost use Rattle.aes.specs.Reply.{refusal};
 ghost use Rattle.masks.specs.Mask.{inRow};
 ghost use Rattle.masked.specs.Calls.{encryptBlocksOf, blocksChecks};
-ghost use Rattle.masked.specs.Calls.{inTurn};
+ghost use Rattle.starts.specs.Each.{inTurn};
 use super::chosen;
 use aes::reply;
 use caller::Caller;
-use lent::given::Block;
 use lent::given::Masks;
-use runs::run::unrecorded;
+use lent::given::Start;
+use masks::places::first_places;
+use starts::each;
 
 // Writes for each block what encrypt_published would, at the block's own offset.
 pub fn encrypt_blocks(
@@ -41,25 +40,23 @@ fn in_turn(schedule: &[u8], input: &[u8], output: &mut [u8], offsets: &[u8], ste
     ensures { λ _. ⌜ now (output .exit) ≡ inRow (inTurn (now (schedule .entry)) (now (input .entry)) (now (offsets .entry)) step) (length (now (offsets .entry))) ⌝ }
 {
     let caller = Caller {};
-    let masks = Masks::published(caller, step);
+    let masks = Masks::published(caller, step, Start::one(caller, 0));
     let mut boxes = stores::boxes::boxes();
     masks.stepped(&mut boxes);
+    let places = first_places();
+    let covers = stores::constants::covers();
     let compensations = stores::constants::compensations();
-    let mut k = 0;
-    while k < offsets.len() {
-        let a = 16 * k;
-        let e = a + 16;
-        unrecorded(
-            Block::lent(caller, &input[a..e]),
-            schedule,
-            masks,
-            &boxes,
-            &compensations,
-            offset(offsets, k),
-            &mut output[a..e],
-        );
-        k += 1;
-    }
+    each(
+        schedule,
+        input,
+        output,
+        offsets,
+        masks,
+        &places,
+        &covers,
+        &boxes,
+        &compensations,
+    );
 }
 
 // The number of the first check that fails, in their order.
@@ -81,27 +78,5 @@ fn refusal(schedule: &[u8], input: &[u8], output: &[u8], offsets: &[u8], step: u
     if offsets.len() != input.len() / 16 {
         return reply::OFFSETS_LENGTH;
     }
-    later_refusal(offsets, step, form)
-}
-
-// The same of the checks that read more than a length.
-fn later_refusal(offsets: &[u8], step: u8, form: u8) -> u8
-    ensures { λ r. ⌜ r ≡ refusal (areOffsets (now (offsets .entry)) ∷ isStep step ∷ isForm form ∷ []) ⌝ }
-{
-    let mut k = 0;
-    while k < offsets.len() {
-        if 15 < offsets[k] {
-            return reply::OFFSET_RANGE;
-        }
-        k += 1;
-    }
-    chosen::refusal(step, form)
-}
-
-// The offset of a block.
-fn offset(offsets: &[u8], k: usize) -> u8
-    requires { ⌜ k < length (now offsets) ⌝ }
-    ensures { λ r. ⌜ r ≡ at (now (offsets .entry)) k ⌝ }
-{
-    offsets[k]
+    chosen::offsets_refusal(offsets, step, form)
 }

@@ -24,6 +24,7 @@ pub fn draw(random: &mut Random, boxes: &Boxes, order: &[Cause], broken: &[Cause
         if many { blocks(random, wants(Cause::Blocks), wants(Cause::AnyOffset)) } else { bytes(random, 16, wants(Cause::Input)) };
     let output = bytes(random, if many { input.len() } else { 16 }, wants(Cause::Output) || wants(Cause::Room));
     let offsets = offsets(random, input.len() / 16, wants(Cause::OffsetCount), wants(Cause::AnyOffset));
+    let byte_offsets = byte_offsets(random, wants(Cause::ByteOffsetCount), wants(Cause::ByteOffset));
     let masks = if wants(Cause::Masks) { bytes(random, 16, true) } else { masks(random).to_vec() };
     let states = bytes(random, record_length(order), wants(Cause::States) || wants(Cause::DecryptionStates));
     let step = step(random, wants(Cause::Step));
@@ -33,8 +34,8 @@ pub fn draw(random: &mut Random, boxes: &Boxes, order: &[Cause], broken: &[Cause
     let [packet, packet_out, pipes] = packets::three(random, boxes, order, wants);
     let [key, schedule, input, output, masks, states, sheet] =
         [key, schedule, input, output, masks, states, sheet].map(|body| Buffer::new(random, &body));
-    let [blank, offsets, key_data, wrapped, packet, packet_out, pipes] =
-        [blank, offsets, key_data, wrapped, packet, packet_out, pipes].map(|body| Buffer::new(random, &body));
+    let [blank, offsets, byte_offsets, key_data, wrapped, packet, packet_out, pipes] =
+        [blank, offsets, byte_offsets, key_data, wrapped, packet, packet_out, pipes].map(|body| Buffer::new(random, &body));
     let offset = if wants(Cause::Offset) { 16 + random.below(240) } else { random.below(16) } as u8;
     let form = form(random, wants(Cause::Form));
     let odd = random.below(2) == 1;
@@ -48,6 +49,7 @@ pub fn draw(random: &mut Random, boxes: &Boxes, order: &[Cause], broken: &[Cause
         sheet,
         blank,
         offsets,
+        byte_offsets,
         key_data,
         wrapped,
         packet,
@@ -114,9 +116,36 @@ fn blocks(random: &mut Random, wrong: bool, at_least_one: bool) -> Vec<u8> {
 fn offsets(random: &mut Random, blocks: usize, length: bool, range: bool) -> Vec<u8> {
     let length = if length { wrong_length(random, blocks) } else { blocks };
     let mut offsets: Vec<u8> = (0..length).map(|_| random.below(16) as u8).collect();
-    if range && length > 0 {
-        let places = [0, length - 1, random.below(length)];
+    if range {
+        one_too_great(random, &mut offsets);
+    }
+    offsets
+}
+
+fn one_too_great(random: &mut Random, offsets: &mut [u8]) {
+    if let Some(last) = offsets.len().checked_sub(1) {
+        let places = [0, last, random.below(offsets.len())];
         offsets[places[random.below(3)]] = if random.below(2) == 0 { 16 } else { 16 + random.below(240) as u8 };
+    }
+}
+
+/// An offset for each byte: mostly each drawn by itself; at times those of one offset, or those but for one byte, or all the same.
+fn byte_offsets(random: &mut Random, length: bool, range: bool) -> Vec<u8> {
+    let length = if length { wrong_length(random, 16) } else { 16 };
+    let (kind, first) = (random.below(8), random.below(16));
+    let mut offsets: Vec<u8> = (0..length)
+        .map(|i| match kind {
+            0 | 1 => (first + i) % 16,
+            2 => first,
+            _ => random.below(16),
+        })
+        .map(|offset| offset as u8)
+        .collect();
+    if kind == 1 && length > 0 {
+        offsets[random.below(length)] = random.below(16) as u8;
+    }
+    if range {
+        one_too_great(random, &mut offsets);
     }
     offsets
 }

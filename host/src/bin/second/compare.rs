@@ -29,7 +29,8 @@ impl Trial<'_> {
         if self.spoiled {
             spoil(random, &mut answer, &mut expected);
         }
-        let numbers = format!("offset {}, step {}, form {}", lent.offset, lent.step, lent.form);
+        let offsets: Vec<&u8> = lent.byte_offsets.lent().iter().take(17).collect();
+        let numbers = format!("offset {}, of bytes {offsets:?}, step {}, form {}", lent.offset, lent.step, lent.form);
         let given = (self.call.library)(&mut lent);
         let difference = lent.first_difference(&expected);
         let same = given == answer && difference.is_none();

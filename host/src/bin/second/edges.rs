@@ -1,5 +1,6 @@
 //! The edges that the scope and the requests name, one by one.
 
+mod offsets;
 mod packets;
 mod records;
 mod sheets;
@@ -25,6 +26,9 @@ pub fn compare(spoiled: bool) -> Tally {
         lengths_of_keys(),
         huge(),
         offsets_and_forms(),
+        offsets::refused(),
+        offsets::masks(),
+        offsets::of_one_offset(),
         steps::refused(),
         steps::masks(),
         many_blocks(),
@@ -75,7 +79,7 @@ fn huge() -> Vec<Edge> {
         edge("reply to a schedule of a mebibyte", calls::encrypt(&many, &[0; 16], &mut [0; 16]), 2),
         edge("reply to a block of a mebibyte", calls::encrypt(&[0; 240], &many, &mut [0; 16]), 3),
         edge("reply to a mask table of a mebibyte", calls::fitness(&many) >> 8, 5),
-        edge("the same, decrypting", calls::decrypt_masked(&[0; 240], &[0; 16], &mut [0; 16], &many, 0, 1), 5),
+        edge("the same, decrypting", calls::decrypt_masked(&[0; 240], &[0; 16], &mut [0; 16], &many, &many, 1), 5),
         edge("reply to key data of a mebibyte, wrapped", calls::wrap(&[0; 240], &many, &mut [0; 24]), 16),
         edge("reply to a wrapped key of a mebibyte", calls::unwrap(&[0; 240], &many, &mut [0; 16]), 17),
         edge("reply to a packet of a mebibyte", calls::scramble(&many, &mut [0; 188], &many, false), 19),
@@ -88,15 +92,15 @@ fn offsets_and_forms() -> Vec<Edge> {
     let (w, block, masks) = ([0; 240], [0; 16], [0; 16]);
     let mut edges = Vec::new();
     for (offset, form, expected) in [(15, 0, 0), (16, 0, 6), (0, 1, 7), (0, 2, 7), (0, 255, 7), (16, 1, 6)] {
-        let published = calls::encrypt_published(&w, &block, &mut [0; 16], offset, 1, form);
+        let published = calls::encrypt_published(&w, &block, &mut [0; 16], &[offset; 16], 1, form);
         edges.push(edge(format!("reply to offset {offset}, form {form}, published masks"), published, expected));
-        let masked = calls::encrypt_masked(&w, &block, &mut [0; 16], &masks, offset, 1, form);
+        let masked = calls::encrypt_masked(&w, &block, &mut [0; 16], &masks, &[offset; 16], 1, form);
         edges.push(edge(format!("reply to offset {offset}, form {form}, any masks"), masked, expected));
     }
     for (offset, expected) in [(15, 0), (16, 6)] {
-        let published = calls::decrypt_published(&w, &block, &mut [0; 16], offset, 1);
+        let published = calls::decrypt_published(&w, &block, &mut [0; 16], &[offset; 16], 1);
         edges.push(edge(format!("reply to offset {offset}, published masks, decrypting"), published, expected));
-        let masked = calls::decrypt_masked(&w, &block, &mut [0; 16], &masks, offset, 1);
+        let masked = calls::decrypt_masked(&w, &block, &mut [0; 16], &masks, &[offset; 16], 1);
         edges.push(edge(format!("reply to offset {offset}, any masks, decrypting"), masked, expected));
     }
     edges

@@ -59,8 +59,9 @@ pub struct Lent {
     /// A sheet to read, and a buffer to write one to.
     pub sheet: Buffer,
     pub blank: Buffer,
-    /// For many blocks, the offset of each.
+    /// For many blocks, the offset of each, and for one, that of each byte.
     pub offsets: Buffer,
+    pub byte_offsets: Buffer,
     /// Key data, and a wrapped key.
     pub key_data: Buffer,
     pub wrapped: Buffer,
@@ -75,7 +76,7 @@ pub struct Lent {
 }
 
 impl Lent {
-    fn buffers(&self) -> [(&'static str, &Buffer); 14] {
+    fn buffers(&self) -> [(&'static str, &Buffer); 15] {
         [
             ("key", &self.key),
             ("schedule", &self.schedule),
@@ -86,6 +87,7 @@ impl Lent {
             ("sheet", &self.sheet),
             ("blank", &self.blank),
             ("offsets", &self.offsets),
+            ("offsets of bytes", &self.byte_offsets),
             ("key data", &self.key_data),
             ("wrapped key", &self.wrapped),
             ("packet", &self.packet),
@@ -112,6 +114,7 @@ impl Lent {
             &mut self.sheet,
             &mut self.blank,
             &mut self.offsets,
+            &mut self.byte_offsets,
             &mut self.key_data,
             &mut self.wrapped,
             &mut self.packet,

@@ -1,7 +1,7 @@
 //! The independent second program: `second SEED CASES [SPOILED]` compares every public call of the library with an
-//! implementation of its own, on so many cases drawn from the seed, on every step, every form, every length of key data and every
-//! header of a packet where there is one, and on all inputs of the calls that take bytes alone; and it compares blocks, keys and
-//! packets with themselves, sealed and opened again.
+//! implementation of its own, on so many cases drawn from the seed, on every step, every form, every offset of every byte, every
+//! length of key data and every header of a packet where there is one, and on all inputs of the calls that take bytes alone; and it
+//! compares blocks, keys and packets with themselves, sealed and opened again.
 //!
 //! It prints for each call how many cases were compared and how many differ, and fails where any does. SPOILED names a call, or
 //! `edges`: what is expected of it is then changed, so that each of its cases must differ.
@@ -19,6 +19,7 @@ mod edges;
 mod field;
 mod lent;
 mod masked;
+mod offsets;
 mod packet;
 mod packets;
 mod random;
@@ -64,8 +65,11 @@ fn all(seed: u64, cases: usize, spoiled: &str) -> bool {
     let mut report = Report::start();
     let mut name_before = "";
     for call in table::calls() {
+        // What has more cases than the drawn ones is compared once for a name.
+        let is_first = call.name != name_before;
         let trial = || Trial { call, boxes: &boxes, spoiled: call.name == spoiled, tally: Tally::default() };
-        let [mut drawn, mut every_step, mut every_form, mut every_length, mut every_header] = [(); 5].map(|()| trial());
+        let [mut drawn, mut every_step, mut every_form, mut every_byte] = [(); 4].map(|()| trial());
+        let [mut every_length, mut every_header] = [(); 2].map(|()| trial());
         compare(&mut drawn, &mut random, cases);
         report.row(call.name, call.method, drawn.tally);
         if steps::compare(&mut every_step, &mut random) {
@@ -74,11 +78,13 @@ fn all(seed: u64, cases: usize, spoiled: &str) -> bool {
         if compare_forms(&mut every_form, &mut random) {
             report.row(call.name, "the same in every form", every_form.tally);
         }
+        if is_first && offsets::compare(&mut every_byte, &mut random) {
+            report.row(call.name, "every offset of every byte", every_byte.tally);
+        }
         if wraps::compare(&mut every_length, &mut random) {
             report.row(call.name, "every length, offset and bit", every_length.tally);
         }
-        // Once for a name: what follows has more cases than the drawn ones.
-        if call.name != name_before && packets::compare(&mut every_header, &mut random) {
+        if is_first && packets::compare(&mut every_header, &mut random) {
             report.row(call.name, "every header, length and PID", every_header.tally);
         }
         name_before = call.name;

@@ -7,17 +7,23 @@ use std::array::from_fn;
 /// The sixteen masks that document 002 publishes.
 pub const PUBLISHED: [u8; 16] = [0x00, 0x0f, 0x36, 0x39, 0x53, 0x5c, 0x65, 0x6a, 0x95, 0x9a, 0xa3, 0xac, 0xc6, 0xc9, 0xf0, 0xff];
 
-/// What a masked run is run with. Labels are counted modulo 16, and advance by the step from round to round.
+/// The offset of each byte where there is one for all: from byte to byte the label is one further on.
+pub fn of_one(offset: u8) -> [u8; 16] {
+    from_fn(|i| ((usize::from(offset) + i) % 16) as u8)
+}
+
+/// What a masked run is run with: masks, an offset for each byte, and a step. Labels are counted modulo 16, and advance by the step
+/// from round to round.
 pub struct Masking {
     pub masks: [u8; 16],
-    pub offset: usize,
-    pub step: usize,
+    pub offsets: [u8; 16],
+    pub step: u8,
 }
 
 impl Masking {
-    /// With the published masks, at the offset and the step that a call is lent.
+    /// With the published masks, at the offsets and the step that a call is lent.
     pub fn published(lent: &Lent) -> Masking {
-        Masking { masks: PUBLISHED, offset: lent.offset.into(), step: lent.step.into() }
+        Masking { masks: PUBLISHED, offsets: lent.byte_offsets.sixteen(), step: lent.step }
     }
 
     /// The same with the masks that it is lent.
@@ -25,13 +31,18 @@ impl Masking {
         Masking { masks: lent.masks.sixteen(), ..Masking::published(lent) }
     }
 
+    /// The label of byte i after so many rounds.
+    fn label(&self, i: usize, rounds: usize) -> usize {
+        usize::from(self.offsets[i]) + usize::from(self.step) * rounds
+    }
+
     fn mask_byte(&self, label: usize) -> u8 {
         self.masks[label % 16]
     }
 
-    /// The mask after so many rounds, Mask(offset + step * rounds).
+    /// The mask after so many rounds, Mask(o + step * rounds).
     pub fn mask(&self, rounds: usize) -> State {
-        from_fn(|i| self.mask_byte(self.offset + self.step * rounds + i))
+        from_fn(|i| self.mask_byte(self.label(i, rounds)))
     }
 
     /// What puts the mask after so many rounds back where a transformation has moved it: the xor of both.
@@ -40,11 +51,11 @@ impl Masking {
         add(&mask, &moved(&mask))
     }
 
-    /// Box offset + i + step * round on byte i, over S or its inverse.
+    /// Box o(i) + step * round on byte i, over S or its inverse: it takes that mask, and gives the one a step further on.
     fn boxes(&self, bare: impl Fn(u8) -> u8, s: &State, round: usize) -> State {
         from_fn(|i| {
-            let label = self.offset + i + self.step * round;
-            bare(s[i] ^ self.mask_byte(label)) ^ self.mask_byte(label + self.step)
+            let [taken, given] = [round, round + 1].map(|rounds| self.mask_byte(self.label(i, rounds)));
+            bare(s[i] ^ taken) ^ given
         })
     }
 
@@ -53,14 +64,6 @@ impl Masking {
         match direction {
             Direction::Encryption => self.encryption(boxes, schedule, block),
             Direction::Decryption => self.decryption(boxes, schedule, block),
-        }
-    }
-
-    /// The mask that lies at each point of a run, row by row as the tables have them.
-    pub fn masks_at_points(&self, direction: Direction) -> Vec<State> {
-        match direction {
-            Direction::Encryption => self.masks_encrypting(),
-            Direction::Decryption => self.masks_decrypting(),
         }
     }
 
@@ -101,32 +104,40 @@ impl Masking {
         }
         states
     }
+}
 
-    /// As the scope's table has them.
-    fn masks_encrypting(&self) -> Vec<State> {
-        let mut masks = vec![self.mask(0)];
-        for round in 0..=12 {
-            let after = self.mask(round + 1);
-            let shifted = shift_rows(&after);
-            masks.extend([self.mask(round), after, shifted, mix_columns(&shifted), after]);
-        }
-        let after = self.mask(14);
+/// The mask that lies at each point of a run, row by row as the tables have them; mask gives that after so many rounds.
+pub fn masks_at_points(direction: Direction, mask: impl Fn(usize) -> State) -> Vec<State> {
+    match direction {
+        Direction::Encryption => masks_encrypting(mask),
+        Direction::Decryption => masks_decrypting(mask),
+    }
+}
+
+/// As the scope's table has them.
+fn masks_encrypting(mask: impl Fn(usize) -> State) -> Vec<State> {
+    let mut masks = vec![mask(0)];
+    for round in 0..=12 {
+        let after = mask(round + 1);
         let shifted = shift_rows(&after);
-        masks.extend([self.mask(13), after, shifted, shifted, [0; 16]]);
-        masks
+        masks.extend([mask(round), after, shifted, mix_columns(&shifted), after]);
     }
+    let after = mask(14);
+    let shifted = shift_rows(&after);
+    masks.extend([mask(13), after, shifted, shifted, [0; 16]]);
+    masks
+}
 
-    /// The boxes take the mask of their round and give that of the next; a mask that was moved is put back at the next point.
-    fn masks_decrypting(&self) -> Vec<State> {
-        let mut masks = vec![self.mask(0), self.mask(0)];
-        for round in 0..=13 {
-            let (taken, given) = (self.mask(round), self.mask(round + 1));
-            masks.extend([inv_shift_rows(&taken), taken, given, given]);
-            match round {
-                13 => masks.push([0; 16]),
-                _ => masks.extend([inv_mix_columns(&given), given]),
-            }
+/// The boxes take the mask of their round and give that of the next; a mask that was moved is put back at the next point.
+fn masks_decrypting(mask: impl Fn(usize) -> State) -> Vec<State> {
+    let mut masks = vec![mask(0), mask(0)];
+    for round in 0..=13 {
+        let (taken, given) = (mask(round), mask(round + 1));
+        masks.extend([inv_shift_rows(&taken), taken, given, given]);
+        match round {
+            13 => masks.push([0; 16]),
+            _ => masks.extend([inv_mix_columns(&given), given]),
         }
-        masks
     }
+    masks
 }

@@ -7,7 +7,8 @@ use crate::packet::{has_block, payload_start, pipe_of, pipes, Header, PACKET, SY
 use crate::wrap::{unwrapped, INITIAL};
 
 /// What a call can find wrong. A reply number can have several causes: a sheet is measured twice where it is read, for many
-/// blocks lengths are measured otherwise than for one, and a record has the length of its direction.
+/// blocks lengths are measured otherwise than for one, there can be one offset or several, and a record has the length of its
+/// direction.
 #[derive(Clone, Copy, Debug, PartialEq)]
 pub enum Cause {
     Key,
@@ -24,6 +25,10 @@ pub enum Cause {
     AnyOffset,
     /// Of many blocks: not one offset for each.
     OffsetCount,
+    /// Of one block: the offset of any byte.
+    ByteOffset,
+    /// Of one block: not one offset for each byte.
+    ByteOffsetCount,
     Step,
     Form,
     States,
@@ -71,6 +76,11 @@ pub fn takes_many(order: &[Cause]) -> bool {
     order.contains(&Cause::Blocks)
 }
 
+/// Whether a call with these refusals takes an offset for each byte of a block.
+pub fn takes_byte_offsets(order: &[Cause]) -> bool {
+    order.contains(&Cause::ByteOffsetCount)
+}
+
 /// Whether a call with these refusals opens a wrapped key.
 pub fn opens(order: &[Cause]) -> bool {
     order.contains(&Cause::Integrity)
@@ -108,7 +118,7 @@ impl Cause {
             Cause::Input | Cause::Blocks => 3,
             Cause::Output | Cause::Room => 4,
             Cause::Masks => 5,
-            Cause::Offset | Cause::AnyOffset => 6,
+            Cause::Offset | Cause::AnyOffset | Cause::ByteOffset => 6,
             Cause::Form => 7,
             Cause::States | Cause::DecryptionStates => 8,
             Cause::SheetHead | Cause::SheetLength | Cause::BlankLength => 11,
@@ -124,6 +134,7 @@ impl Cause {
             Cause::Field => 21,
             Cause::Pipes => 22,
             Cause::BitsToScramble | Cause::BitsToDescramble => 23,
+            Cause::ByteOffsetCount => 24,
         }
     }
 
@@ -144,6 +155,8 @@ impl Cause {
             Cause::Offset => lent.offset > 15,
             Cause::AnyOffset => offsets.iter().any(|&offset| offset > 15),
             Cause::OffsetCount => offsets.len() != input.len() / 16,
+            Cause::ByteOffset => lent.byte_offsets.lent().iter().any(|&offset| offset > 15),
+            Cause::ByteOffsetCount => lent.byte_offsets.lent().len() != 16,
             Cause::Step => !takes_step(lent.step),
             Cause::Form => lent.form != 0,
             Cause::States => lent.states.lent().len() != 1136,

@@ -3,6 +3,7 @@
 use crate::cases::draw;
 use crate::compare::Trial;
 use crate::lent::{Buffer, Lent};
+use crate::masked::of_one;
 use crate::random::Random;
 use crate::replies::{takes_step, Cause};
 use std::ops::RangeInclusive;
@@ -30,6 +31,7 @@ fn runs(trial: &mut Trial, random: &mut Random) {
         for offset in offsets {
             let mut lent = draw(random, trial.boxes, refusals, &[]);
             lent.offsets.lent_mut().fill(offset);
+            lent.byte_offsets.lent_mut().copy_from_slice(&of_one(offset));
             trial.case(random, Lent { offset, step, ..lent });
         }
         for &cause in refusals.iter().filter(|cause| **cause != Cause::Step) {

@@ -12,7 +12,7 @@ mod wraps;
 use crate::answer::Answer;
 use crate::cipher::{add, record, Boxes, Direction, State};
 use crate::lent::{Buffer, Lent};
-use crate::masked::Masking;
+use crate::masked::{masks_at_points, of_one, Masking};
 use crate::replies::Cause;
 
 /// The reference is asked only where no refusal is met. It gives the value, and writes what is to be written.
@@ -60,10 +60,35 @@ fn masked_record(direction: Direction, boxes: &Boxes, lent: &mut Lent) -> u8 {
     write(&mut lent.states, &states.concat())
 }
 
-/// The states of a plain run, each under the mask that lies at its point.
-fn covered_record(direction: Direction, boxes: &Boxes, lent: &mut Lent) -> u8 {
-    let masks = Masking::lent(lent).masks_at_points(direction);
+/// The states of a plain run, each under the mask that lies at its point; mask gives that after so many rounds.
+fn covered_record(direction: Direction, mask: impl Fn(usize) -> State, boxes: &Boxes, lent: &mut Lent) -> u8 {
+    let masks = masks_at_points(direction, mask);
     let covered =
         plain_states(direction, boxes, lent).iter().zip(&masks).map(|(state, mask)| add(state, mask)).collect::<Vec<_>>();
     write(&mut lent.states, &covered.concat())
+}
+
+/// The same with an offset for each byte.
+fn covered_by_bytes(direction: Direction, boxes: &Boxes, lent: &mut Lent) -> u8 {
+    let masking = Masking::lent(lent);
+    covered_record(direction, |rounds| masking.mask(rounds), boxes, lent)
+}
+
+/// The same with one offset: the mask is then the table of masks, turned so far.
+fn covered_by_one(direction: Direction, boxes: &Boxes, lent: &mut Lent) -> u8 {
+    let (masks, offset, step) = (lent.masks.sixteen(), usize::from(lent.offset), usize::from(lent.step));
+    let turned = |rounds: usize| {
+        let mut mask = masks;
+        mask.rotate_left((offset + step * rounds) % 16);
+        mask
+    };
+    covered_record(direction, turned, boxes, lent)
+}
+
+/// What a call is lent of one offset: that of each byte, or sixteen times one that is too great.
+fn lent_of_one(offset: u8) -> [u8; 16] {
+    match offset {
+        0..=15 => of_one(offset),
+        _ => [offset; 16],
+    }
 }

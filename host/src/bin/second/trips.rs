@@ -1,5 +1,5 @@
 //! There and back: each call that decrypts must open what any that encrypts has sealed, and the reverse, and each that unwraps what
-//! any that wraps has wrapped; each with masks, an offset and a step of its own. And each packet that is scrambled must come back.
+//! any that wraps has wrapped; each with masks, offsets and a step of its own. And each packet that is scrambled must come back.
 
 use crate::cases::draw;
 use crate::cipher::Boxes;
@@ -9,7 +9,7 @@ use crate::replies::Cause;
 use crate::report::{Report, Tally};
 use slipgrease::calls;
 
-/// A call that makes bytes of bytes under a schedule or a list of pipes. Masks, offset, step and parity are those lent, as far as
+/// A call that makes bytes of bytes under a schedule or a list of pipes. Masks, offsets, step and parity are those lent, as far as
 /// it takes them. Refused, it gives nothing.
 struct Maker {
     name: &'static str,
@@ -22,7 +22,7 @@ const ENCRYPTING: [Maker; 5] = [
     Maker { name: "encrypt", make: |w, block, _| made(16, |to| calls::encrypt(w, block, to)) },
     Maker {
         name: "encrypt_published",
-        make: |w, block, l| made(16, |to| calls::encrypt_published(w, block, to, l.offset, l.step, 0)),
+        make: |w, block, l| made(16, |to| calls::encrypt_published(w, block, to, l.byte_offsets.lent(), l.step, 0)),
     },
     Maker {
         name: "encrypt_blocks",
@@ -30,11 +30,13 @@ const ENCRYPTING: [Maker; 5] = [
     },
     Maker {
         name: "encrypt_masked",
-        make: |w, block, l| made(16, |to| calls::encrypt_masked(w, block, to, l.masks.lent(), l.offset, l.step, 0)),
+        make: |w, block, l| made(16, |to| calls::encrypt_masked(w, block, to, l.masks.lent(), l.byte_offsets.lent(), l.step, 0)),
     },
     Maker {
         name: "record_masked",
-        make: |w, block, l| last_of(made(1136, |to| calls::record_masked(w, block, l.masks.lent(), l.offset, l.step, to))),
+        make: |w, block, l| {
+            last_of(made(1136, |to| calls::record_masked(w, block, l.masks.lent(), l.byte_offsets.lent(), l.step, to)))
+        },
     },
 ];
 
@@ -42,16 +44,16 @@ const DECRYPTING: [Maker; 4] = [
     Maker { name: "decrypt", make: |w, block, _| made(16, |to| calls::decrypt(w, block, to)) },
     Maker {
         name: "decrypt_published",
-        make: |w, block, l| made(16, |to| calls::decrypt_published(w, block, to, l.offset, l.step)),
+        make: |w, block, l| made(16, |to| calls::decrypt_published(w, block, to, l.byte_offsets.lent(), l.step)),
     },
     Maker {
         name: "decrypt_masked",
-        make: |w, block, l| made(16, |to| calls::decrypt_masked(w, block, to, l.masks.lent(), l.offset, l.step)),
+        make: |w, block, l| made(16, |to| calls::decrypt_masked(w, block, to, l.masks.lent(), l.byte_offsets.lent(), l.step)),
     },
     Maker {
         name: "record_masked_decryption",
         make: |w, block, l| {
-            last_of(made(1360, |to| calls::record_masked_decryption(w, block, l.masks.lent(), l.offset, l.step, to)))
+            last_of(made(1360, |to| calls::record_masked_decryption(w, block, l.masks.lent(), l.byte_offsets.lent(), l.step, to)))
         },
     },
 ];

@@ -3,7 +3,7 @@
 use crate::fault::Fault;
 use crate::hex::digits;
 use crate::shown::{brief, count};
-use crate::words::{Given, Number, Words};
+use crate::words::{Given, GivenOffsets, Number, Words};
 use slipgrease::Refusal;
 use std::io::Write;
 
@@ -49,7 +49,7 @@ impl Keyed {
 #[derive(Clone)]
 pub struct Masking {
     pub masks: Option<Given>,
-    pub offset: Number,
+    pub offsets: GivenOffsets,
     pub step: Option<Number>,
 }
 
@@ -59,7 +59,7 @@ pub fn explained(refusal: Refusal, keyed: &Keyed, block: &Given, masking: Option
         (Refusal::ScheduleLength, _) => keyed.given.refused(refusal),
         (Refusal::InputLength, _) => block.refused(refusal),
         (Refusal::MasksLength, Some(Masking { masks: Some(masks), .. })) => masks.refused(refusal),
-        (Refusal::OffsetRange, Some(masking)) => masking.offset.refused(refusal),
+        (Refusal::OffsetPerByte | Refusal::OffsetRange, Some(masking)) => masking.offsets.refused(refusal),
         (Refusal::StepWrong, Some(Masking { step: Some(step), .. })) => step.refused(refusal),
         _ => Fault::refused(refusal, "the library"),
     }
@@ -97,37 +97,37 @@ fn one_block(words: &mut Words, out: &mut dyn Write, cipher: Cipher) -> Result<(
 /// Masked runs take the standard form alone, and are still told so.
 const FORM: u8 = 0;
 
-/// The module's encryption, at the offset and with the step that the caller names.
+/// The module's encryption, at the offsets and with the step that the caller names.
 pub fn mask(words: &mut Words, out: &mut dyn Write) -> Result<(), Fault> {
-    one_masked_block(words, out, |schedule, block, output, masks, offset, step| match masks {
-        None => slipgrease::encrypt_published(schedule, block, output, offset, step, FORM),
-        Some(masks) => slipgrease::encrypt_masked(schedule, block, output, masks, offset, step, FORM),
+    one_masked_block(words, out, |schedule, block, output, masks, offsets, step| match masks {
+        None => slipgrease::encrypt_published(schedule, block, output, offsets, step, FORM),
+        Some(masks) => slipgrease::encrypt_masked(schedule, block, output, masks, offsets, step, FORM),
     })
 }
 
 /// Its decryption, likewise.
 pub fn unmask(words: &mut Words, out: &mut dyn Write) -> Result<(), Fault> {
-    one_masked_block(words, out, |schedule, block, output, masks, offset, step| match masks {
-        None => slipgrease::decrypt_published(schedule, block, output, offset, step),
-        Some(masks) => slipgrease::decrypt_masked(schedule, block, output, masks, offset, step),
+    one_masked_block(words, out, |schedule, block, output, masks, offsets, step| match masks {
+        None => slipgrease::decrypt_published(schedule, block, output, offsets, step),
+        Some(masks) => slipgrease::decrypt_masked(schedule, block, output, masks, offsets, step),
     })
 }
 
 /// Without masks it has the published ones.
-type MaskedCipher = fn(&[u8], &[u8], &mut [u8], Option<&[u8]>, u8, u8) -> Result<(), Refusal>;
+type MaskedCipher = fn(&[u8], &[u8], &mut [u8], Option<&[u8]>, &[u8], u8) -> Result<(), Refusal>;
 
 fn one_masked_block(words: &mut Words, out: &mut dyn Write, cipher: MaskedCipher) -> Result<(), Fault> {
-    let offset = words.number_of("offset")?;
+    let offsets = words.offsets_of("offset")?;
     let step = words.number_of("step")?;
     let masks = words.bytes_of("masks")?;
     let (keyed, block) = Keyed::read(words, |words| words.bytes("block"))?;
-    let offset =
-        offset.ok_or_else(|| Fault::caller("--offset is missing: the run's offset, 0 to 15, is the caller's to choose"))?;
-    let masking = Masking { masks, offset, step };
-    let (offset, step) = (masking.offset.value, Number::step(&masking.step));
+    let offsets =
+        offsets.ok_or_else(|| Fault::caller("--offset is missing: the run's offset, 0 to 15, is the caller's to choose"))?;
+    let masking = Masking { masks, offsets, step };
+    let (offsets, step) = (masking.offsets.bytes(), Number::step(&masking.step));
     let masks = masking.masks.as_ref().map(|masks| &masks.bytes[..]);
     let mut output = [0; 16];
-    cipher(&keyed.bytes, &block.bytes, &mut output, masks, offset, step)
+    cipher(&keyed.bytes, &block.bytes, &mut output, masks, &offsets, step)
         .map_err(|refusal| explained(refusal, &keyed, &block, Some(&masking)))?;
     writeln!(out, "{}", digits(&output))?;
     Ok(())

@@ -39,6 +39,7 @@ impl Fault {
         let said = match refusal {
             Refusal::InputLength => "a block is 16 bytes",
             Refusal::OffsetRange => "an offset is 0 to 15",
+            Refusal::OffsetPerByte => "one is expected, or sixteen with commas between them",
             Refusal::StepWrong => "a step is 1, or 4 to 15",
             _ => refusal.meaning(),
         };

@@ -3,7 +3,7 @@
 use crate::fault::Fault;
 use crate::hex;
 use crate::shown::{brief, count};
-use slipgrease::Refusal;
+use slipgrease::{Offset, Offsets, Refusal};
 use std::ffi::OsString;
 
 /// Bytes, what they are called and where they were read.
@@ -42,6 +42,39 @@ impl Number {
 
     pub fn refused(&self, refusal: Refusal) -> Fault {
         Fault::refused(refusal, &format!("--{} {}", self.what, brief(&self.word)))
+    }
+}
+
+/// The offsets of a run, and the word that they were given as: one number, or one for each byte.
+#[derive(Clone)]
+pub struct GivenOffsets {
+    pub what: &'static str,
+    pub word: String,
+    pub numbers: Vec<Number>,
+}
+
+impl GivenOffsets {
+    /// What the library is lent. It judges how many there are and how great; so one alone that is too great goes to it sixteen times.
+    pub fn bytes(&self) -> Vec<u8> {
+        match self.numbers[..] {
+            [Number { value, .. }] => {
+                Offset::new(value).map_or(vec![value; 16], |offset| Offsets::one(offset).as_bytes().to_vec())
+            }
+            ref numbers => numbers.iter().map(|number| number.value).collect(),
+        }
+    }
+
+    pub fn refused(&self, refusal: Refusal) -> Fault {
+        let (option, word) = (format!("--{}", self.what), brief(&self.word));
+        let too_great = self.numbers.iter().enumerate().find(|(_, number)| number.value > 15);
+        let seen = match (refusal, too_great) {
+            (Refusal::OffsetPerByte, _) => format!("{option} {word}: {}", count(self.numbers.len(), "offset")),
+            (Refusal::OffsetRange, Some((byte, number))) if self.numbers.len() > 1 => {
+                format!("{option}, for byte {byte}: {}", brief(&number.word))
+            }
+            _ => format!("{option} {word}"),
+        };
+        Fault::refused(refusal, &seen)
     }
 }
 

@@ -1,6 +1,7 @@
 //! The record of a run: plain or masked, alone, beside a second run or beside a receiver's dump, as text, JSON or a picture.
 
 mod compare;
+mod cover;
 mod dump;
 mod json;
 mod private;
@@ -15,7 +16,7 @@ use crate::cipher::{Keyed, Masking};
 use crate::fault::Fault;
 use crate::svg;
 use crate::table;
-use crate::words::{Given, Number, Words};
+use crate::words::{Given, GivenOffsets, Number, Words};
 use run::Asked;
 use slipgrease::Direction;
 use std::ffi::OsStr;
@@ -28,13 +29,13 @@ pub fn record(words: &mut Words, out: &mut dyn Write) -> Result<(), Fault> {
     if dump.as_deref() == Some(OsStr::new("-")) {
         words.input().hold("the dump")?;
     }
-    let (offset, step, masks) = (words.number_of("offset")?, words.number_of("step")?, words.bytes_of("masks")?);
-    let (offset2, step2, masks2) = (words.number_of("offset2")?, words.number_of("step2")?, words.bytes_of("masks2")?);
+    let (offsets, step, masks) = (words.offsets_of("offset")?, words.number_of("step")?, words.bytes_of("masks")?);
+    let (offsets2, step2, masks2) = (words.offsets_of("offset2")?, words.number_of("step2")?, words.bytes_of("masks2")?);
     let (key2, block2) = (words.bytes_of("key2")?, words.bytes_of("block2")?);
     let (keyed, block) = Keyed::read(words, |words| words.bytes("block"))?;
 
     let of_second = [
-        ("--offset2", offset2.is_some()),
+        ("--offset2", offsets2.is_some()),
         ("--step2", step2.is_some()),
         ("--masks2", masks2.is_some()),
         ("--key2", key2.is_some()),
@@ -50,13 +51,17 @@ pub fn record(words: &mut Words, out: &mut dyn Write) -> Result<(), Fault> {
         return Err(Fault::caller("--json and --svg - cannot be given together: standard output takes one of them"));
     }
     // What the second run is not given it has from the first.
+    let lent = |offsets: &Option<GivenOffsets>| offsets.as_ref().map(GivenOffsets::bytes);
+    let has_its_own = offsets2.is_some() && lent(&offsets2) != lent(&offsets);
     let second = Asked {
         direction,
         keyed: key2.map_or(Ok(keyed.clone()), Keyed::expand)?,
         block: block2.unwrap_or_else(|| block.clone()),
-        masking: masking(offset2.or_else(|| offset.clone()), step2.or_else(|| step.clone()), masks2.or_else(|| masks.clone()))?,
+        offsets_called: if has_its_own { "o2" } else { "o" },
+        masking: masking(offsets2.or_else(|| offsets.clone()), step2.or_else(|| step.clone()), masks2.or_else(|| masks.clone()))?,
     };
-    let first = Run::new(Asked { direction, keyed, block, masking: masking(offset, step, masks)? })?;
+    let first = Asked { direction, keyed, block, offsets_called: "o", masking: masking(offsets, step, masks)? };
+    let first = Run::new(first)?;
     let second = if two.is_some() { Some(Run::new(second)?) } else { None };
     let pair = match (&second, dump) {
         (Some(second), _) => Some(Pair::of_runs(&first, second)),
@@ -100,10 +105,10 @@ fn draw(file: &OsStr, first: &Run, pair: Option<&Pair>, out: &mut dyn Write, wor
     }
 }
 
-fn masking(offset: Option<Number>, step: Option<Number>, masks: Option<Given>) -> Result<Option<Masking>, Fault> {
+fn masking(offsets: Option<GivenOffsets>, step: Option<Number>, masks: Option<Given>) -> Result<Option<Masking>, Fault> {
     let without_offset = |what| Err(Fault::caller(format!("{what} and --offset is missing: a run without an offset is plain")));
-    match (offset, &step, &masks) {
-        (Some(offset), ..) => Ok(Some(Masking { masks, offset, step })),
+    match (offsets, &step, &masks) {
+        (Some(offsets), ..) => Ok(Some(Masking { masks, offsets, step })),
         (None, _, Some(_)) => without_offset("masks are given"),
         (None, Some(_), None) => without_offset("a step is given"),
         (None, None, None) => Ok(None),

@@ -5,6 +5,7 @@ mod decryption;
 mod folder;
 mod given;
 mod input;
+mod offsets;
 mod random;
 mod record;
 mod steps;
@@ -220,7 +221,12 @@ fn what_never_reaches_the_library_is_a_caller_fault() {
             "encrypt --schedule",
             "--schedule is the last word, and a value is expected behind it; slipgrease encrypt --help says more",
         ),
-        ("mask --offset x", "--offset x: a decimal number from 0 to 15 is expected; slipgrease mask --help says more"),
+        (
+            "mask --offset x",
+            "--offset x: a decimal number from 0 to 15 is expected, or sixteen with commas between them; slipgrease mask --help \
+             says more",
+        ),
+        ("wrap --offset x", "--offset x: a decimal number from 0 to 15 is expected; slipgrease wrap --help says more"),
         ("mask --offset 1 --offset 2", "--offset is given twice; slipgrease mask --help says more"),
         ("record --decrypt 00 --decrypt", "--decrypt is given twice; slipgrease record --help says more"),
         ("mask --offset 1 --decrypt 00", "no option --decrypt here; slipgrease mask --help says more"),

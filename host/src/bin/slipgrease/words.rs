@@ -1,12 +1,13 @@
 //! What a command is given: options, arguments, and where arguments are missing or are a dash, the words of standard input.
 
+mod numbers;
+
 use crate::fault::Fault;
 use crate::given::text;
-pub use crate::given::{given, number, Given, Number};
+pub use crate::given::{given, number, Given, GivenOffsets, Number};
 use crate::input::Input;
 use crate::opened::Opened;
 use crate::shown::brief;
-use slipgrease::Step;
 use std::ffi::{OsStr, OsString};
 use std::io::BufRead;
 use std::os::unix::ffi::OsStrExt;
@@ -159,46 +160,6 @@ impl<'a> Words<'a> {
         self.input.hold(called)?;
         let text = self.input.all()?;
         given(what, self.input.name.clone(), &text)
-    }
-
-    /// The number behind an option.
-    pub fn number_of(&mut self, option: &'static str) -> Result<Option<Number>, Fault> {
-        let expected = match option.starts_with("offset") {
-            true => "a decimal number from 0 to 15 is expected",
-            false => "a decimal number is expected, 1 or 4 to 15",
-        };
-        match self.option(option)? {
-            None => Ok(None),
-            Some(word) => self.number(option, &word, format!("--{option}"), expected).map(Some),
-        }
-    }
-
-    /// The numbers behind an option, one for each block, with commas between them.
-    pub fn numbers_of(&mut self, option: &'static str) -> Result<Option<Vec<Number>>, Fault> {
-        let expected = "decimal numbers from 0 to 15 are expected, with commas between them";
-        let given = match self.option(option)? {
-            None => return Ok(None),
-            Some(given) => given,
-        };
-        let words: Vec<&str> = given.split(',').filter(|_| !given.is_empty()).collect();
-        let numbers = words.iter().enumerate().map(|(block, word)| {
-            let place = if words.len() == 1 { String::new() } else { format!(", for block {}:", block + 1) };
-            self.number(option, word, format!("--{option}{place}"), expected)
-        });
-        numbers.collect::<Result<_, _>>().map(Some)
-    }
-
-    fn number(&self, what: &'static str, word: &str, place: String, expected: &str) -> Result<Number, Fault> {
-        match number(word) {
-            Some(value) => Ok(Number { what, word: word.to_string(), value }),
-            None => Err(self.usage(format!("{place} {}: {expected}", brief(word)))),
-        }
-    }
-
-    /// The step behind --step, of a command whose runs cannot be refused.
-    pub fn taken_step(&mut self) -> Result<Step, Fault> {
-        let number = self.number_of("step")?;
-        number.map_or(Ok(Step::ONE), |number| Step::new(number.value).map_err(|refusal| number.refused(refusal)))
     }
 
     /// The next argument, if one is left.

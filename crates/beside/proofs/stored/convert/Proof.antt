@@ -1,6 +1,6 @@
 -- The checks in their order, and the sum with Mask(o+14).
 -- Assumes nothing.
-use mathlib.Core.Path.{_≡_, ap, _∙_}
+use mathlib.Core.Path.{_≡_, sym, ap, _∙_}
 use mathlib.Core.List.{List}
 use Prim.Native.Nat.{ℕ, _+_, _%_}
 use native.Mathlib.Omega.{arith}
@@ -8,8 +8,8 @@ use borrow.Author.Needs.{needs}
 use borrow.Author.Tests.{eq-eqb, ne-eqb, le-leb, lt-leb}
 use lib.ListN.{length}
 use Rattle.aes.specs.State.{at, state}
-use Rattle.masks.specs.Mask.{published, _⊞_, mask, twice}
-use Rattle.masks.proofs.Counted.{mask-turn}
+use Rattle.masks.specs.Mask.{one, published, _⊞_, mask, twice}
+use Rattle.masks.proofs.Counted.{mask-turn, one-on}
 use Rattle.masks.proofs.Stored.{laid-out}
 use Rattle.beside.proofs.stored.convert.Statement.{statement}
 use Rattle.beside.proofs.stored.convert.Tie as tie
@@ -24,10 +24,10 @@ returns-3 : tie.Need-returns-3
 returns-3 c = simp (eq-eqb _ 16 (c .before .before .if1 .left), eq-eqb _ 16 (c .before .if2 .left), lt-leb _ 15 (c .if3 .taken))
 
 -- the mask of the last label, as it is laid out
-last : (o l m : ℕ) (t : List ℕ) → l ≡ o % 16 → m ≡ (l + 14) % 16 → t ≡ twice published → state (λ i. at t (m % 16 + i)) ≡ mask published o 14
+last : (o l m : ℕ) (t : List ℕ) → l ≡ o % 16 → m ≡ (l + 14) % 16 → t ≡ twice published → state (λ i. at t (m % 16 + i)) ≡ mask published (one o) 14
 last o l m t el em et =
     let e : m ≡ (o + 14) % 16 = omega arith in
-    ap (λ (t : List ℕ). state (λ i. at t (m % 16 + i))) et ∙ laid-out published m ∙ ap (mask published 0) e ∙ mask-turn published o 14
+    ap (λ (t : List ℕ). state (λ i. at t (m % 16 + i))) et ∙ laid-out published m ∙ ap (mask published (one 0)) e ∙ mask-turn published (one 0) o 14 ∙ ap (λ (v : List ℕ). mask published v 14) (sym (one-on o))
 
 returns-4 : tie.Need-returns-4
 returns-4 c =

@@ -6,16 +6,16 @@ use native.Mathlib.Omega.{arith}
 use borrow.Author.Needs.{needs}
 use Rattle.aes.specs.State.{at}
 use Rattle.aes.proofs.Undo.{state-at}
-use Rattle.masks.specs.Order.{boxedBy}
+use Rattle.masks.specs.Order.{boxedBy, placesAt}
 use Rattle.masks.proofs.Ordered.{Called, called-none, called-more, called-all}
 use Rattle.masks.proofs.answers.answers.Statement.{statement}
 use Rattle.masks.proofs.answers.answers.Tie as tie
 
 abbrev Inv-loop : tie.InvT-loop
-Inv-loop boxes l s order t₀ k₀ t k = Called (at (boxedBy boxes (l .0) s)) (k .0) t
+Inv-loop boxes places l s order t₀ k₀ t k = Called (at (boxedBy boxes (placesAt places (l .0)) s)) (k .0) t
 
 abbrev μ-loop : tie.MeasureT-loop
-μ-loop boxes l s order t₀ k₀ t k = 16 - k .0
+μ-loop boxes places l s order t₀ k₀ t k = 16 - k .0
 
 -- a box is called while its turn is below 16
 below : (n k : ℕ) → n ≡ k → n < 16 → k < 16
@@ -26,7 +26,7 @@ listed c κs =
     let test = c .before .before .before in
     let l = test .before .before in
     let positions = l .before in
-    (positions .positions .ensures, below _ (l .loop .k .0) (test .before .read .ensures) (test .if1 .taken))
+    (positions .positions .ensures, below _ (l .loop .k .0) (test .before .read .ensures) (test .if1 .taken), positions .before .pre)
 
 again : tie.Need-loop-again Inv-loop μ-loop
 again c =

@@ -13,17 +13,17 @@ use Rattle.aes.specs.State.{at, state}
 use Rattle.aes.specs.Held.{Holds}
 use Rattle.aes.proofs.Part.{holds-none}
 use Rattle.aes.proofs.Xor.{xor-zero}
-use Rattle.masks.specs.Mask.{twice}
+use Rattle.masks.specs.Mask.{one, twice}
 use Rattle.masks.specs.Kinds.{constantOf}
 use Rattle.masks.proofs.Row.{one-more, ended, row-label}
 use Rattle.masks.proofs.Stored.{laid-out}
-use Rattle.masks.proofs.Columns.{rowByte, constant, kind-sized, first-four}
+use Rattle.masks.proofs.Columns.{rowByte, turning, kind-sized, first-four}
 use Rattle.masks.proofs.constants.first_four.Statement.{statement}
 use Rattle.masks.proofs.constants.first_four.Tie as tie
 
 abbrev Inv-loop : tie.InvT-loop
 Inv-loop kind r₀ masks l₀ n₀ r l n =
-    (n ≤ 4) × (l .0 ≡ n % 16) × (length r ≡ 256) × ((M : List ℕ) → masks ≡ twice M → Holds 256 (table (rowByte (constant kind M)) (16 * n)) r)
+    (n ≤ 4) × (l .0 ≡ n % 16) × (length r ≡ 256) × ((M : List ℕ) → masks ≡ twice M → Holds 256 (table (rowByte (turning kind M)) (16 * n)) r)
 
 abbrev μ-loop : tie.MeasureT-loop
 μ-loop kind r₀ masks l₀ n₀ r l n = 4 - n
@@ -66,8 +66,8 @@ again c =
       stored .row .ensures .0 ∙ l .inv .2,
       λ M e.
           let from : List ℕ → List ℕ = λ t. f (state (λ i. at t (l .l .0 % 16 + i))) in
-          rw next at (stored .row .ensures .1 256 (rowByte (constant kind M)) (l .inv .3 M e)
-          (λ i hi. xor-zero _ ∙ ap₂ at (made .constant .ensures ∙ ap f (laid .mask .ensures) ∙ ap from e ∙ ap f (laid-out M (l .l .0)) ∙ ap (constant kind M) label) (zero-add i) ∙ ap₂ (λ (j k : ℕ). at (constant kind M j) k) (omega (arith, hi)) (omega (arith, hi)))),
+          rw next at (stored .row .ensures .1 256 (rowByte (turning kind M)) (l .inv .3 M e)
+          (λ i hi. xor-zero _ ∙ ap₂ at (made .constant .ensures ∙ ap f (laid .mask .ensures) ∙ ap from e ∙ ap f (laid-out M (l .l .0)) ∙ ap (turning kind M) label) (zero-add i) ∙ ap₂ (λ (j k : ℕ). at (turning kind M j) k) (omega (arith, hi)) (omega (arith, hi)))),
     )
 
 returns : tie.Need-returns Inv-loop μ-loop
@@ -76,7 +76,7 @@ returns c =
     let e : l .n ≡ 4 = ended (l .inv .0) (c .loop-test .left) in
     let made = c .before .before in
     let a = made .before .before .args in
-    rw (first-four (a .kind) (a .masks)) (rw e at (l .inv .3 (a .masks) (made .twice .ensures)))
+    rw (first-four (a .kind) (a .masks) (one 0)) (rw e at (l .inv .3 (a .masks) (made .twice .ensures)))
 
 pub first-four-spec : {M : Type 1} → statement M
 first-four-spec =

@@ -13,14 +13,15 @@ use Rattle.aes.proofs.Listed.{table-length}
 use Rattle.aes.proofs.Part.{holds-all}
 use Rattle.masks.specs.declared.constants.Kind.{Kind}
 use Rattle.masks.proofs.Row.{ended}
-use Rattle.masks.proofs.Columns.{rowByte, constant, first-four, all-sixteen, twelve, four}
+use Rattle.masks.specs.Mask.{one}
+use Rattle.masks.proofs.Columns.{rowByte, turning, first-four, all-sixteen, twelve, four}
 use Rattle.masks.proofs.constants.made.Statement.{statement}
 use Rattle.masks.proofs.constants.made.Tie as tie
 
 abbrev Inv-loop : tie.InvT-loop
 Inv-loop r₀ y₀ r y =
     (64 ≤ y) × (y ≤ 256) × (y % 16 ≡ 0) × (length r ≡ 256)
-    × ((k : Kind) (M : List ℕ) → Holds 256 (table (rowByte (constant k M)) 64) r₀ → Holds 256 (table (rowByte (constant k M)) y) r)
+    × ((k : Kind) (M : List ℕ) → Holds 256 (table (rowByte (turning k M)) 64) r₀ → Holds 256 (table (rowByte (turning k M)) y) r)
 
 abbrev μ-loop : tie.MeasureT-loop
 μ-loop r₀ y₀ r y = 256 - y
@@ -55,7 +56,7 @@ again c =
       omega (arith, l .inv .2),
       c .moved2 .ensures .0 ∙ first .moved .ensures .0 ∙ l .inv .3,
       λ k M h.
-          let bytes : ℕ → ℕ = rowByte (constant k M) in
+          let bytes : ℕ → ℕ = rowByte (turning k M) in
           rw next at (c .moved2 .ensures .1 256 bytes
           (first .moved .ensures .1 256 bytes (l .inv .4 k M h) (λ i hi. twelve k M y i (l .inv .0) (l .inv .2) hi))
           (λ i hi. four k M y i (l .inv .0) (l .inv .2) hi)),
@@ -67,8 +68,8 @@ returns c =
     let made = c .before .before in
     let a = made .before .before .args in
     let e : l .y ≡ 256 = ended (l .inv .1) (c .loop-test .left) in
-    let all : Holds 256 (table (rowByte (constant (a .kind) (a .masks))) 256) (l .r) = rw e at (l .inv .4 (a .kind) (a .masks) (rw (first-four (a .kind) (a .masks)) at (made .first-four .ensures))) in
-    holds-all 256 _ (l .r) all (table-length (rowByte (constant (a .kind) (a .masks))) 256) ∙ sym (all-sixteen (a .kind) (a .masks))
+    let all : Holds 256 (table (rowByte (turning (a .kind) (a .masks))) 256) (l .r) = rw e at (l .inv .4 (a .kind) (a .masks) (rw (first-four (a .kind) (a .masks) (one 0)) at (made .first-four .ensures))) in
+    holds-all 256 _ (l .r) all (table-length (rowByte (turning (a .kind) (a .masks))) 256) ∙ sym (all-sixteen (a .kind) (a .masks) (one 0))
 
 pub made-spec : {M : Type 1} → statement M
 made-spec =

@@ -5,7 +5,7 @@ use Prim.Native.Nat.{ℕ, _+_, _%_}
 use borrow.Author.Needs.{needs}
 use Rattle.aes.specs.Key.{roundKey}
 use Rattle.masks.specs.Mask.{_⊞_}
-use Rattle.masks.specs.Order.{boxedBy}
+use Rattle.masks.specs.Order.{boxedBy, boxesAt}
 use Rattle.runs.proofs.back.half.Statement.{statement}
 use Rattle.runs.proofs.back.half.Tie as tie
 
@@ -18,7 +18,7 @@ returns c =
     let s = shifted .inv-shift-rows .ensures in
     let k = corrected .compensate .ensures in
     let t = answered .inverse-boxes .ensures in (
-      t .0 ∙ λ i. boxedBy (a .lent .now) ((k .1 ∙ s .1) i) ((k .0 ∙ λ j. s .0 j ⊞ roundKey (a .rows .now) (s .1 j)) i),
+      t .0 ∙ λ i. boxedBy (a .lent .now) (boxesAt (a .masks .2 .0) ((k .1 ∙ s .1) i)) ((k .0 ∙ λ j. s .0 j ⊞ roundKey (a .rows .now) (s .1 j)) i),
       t .1 ∙ ap (λ (l : ℕ). (l + a .masks .1) % 16) (k .1 ∙ s .1),
       t .2 ∙ k .2 ∙ s .2,
     )

@@ -1,7 +1,7 @@
 -- After m turns the covered block and m states behind it stand in the record.
 -- Assumes nothing.
 use mathlib.Core.List.{List, [], _∷_, _++_}
-use mathlib.Core.Path.{_≡_, refl, ap, _∙_}
+use mathlib.Core.Path.{_≡_, refl, sym, ap, _∙_}
 use Prim.Native.Nat.{ℕ, _+_, _-_, _*_, _/_, _%_, _≤_, _<_}
 use native.Mathlib.Omega.{arith}
 use borrow.Author.Needs.{needs}
@@ -11,7 +11,7 @@ use Rattle.aes.specs.Record.{run, bytes}
 use Rattle.aes.proofs.Steps.{byte}
 use Rattle.aes.proofs.Undo.{add-size}
 use Rattle.aes.proofs.Written.{Written, turns, turns-length, recorded-one, written-first, written-turn, written-step, written-all}
-use Rattle.masks.specs.Mask.{_⊞_, mask}
+use Rattle.masks.specs.Mask.{_⊞_, advanced, mask}
 use Rattle.runs.specs.Back.{Back, block, uncovered, maskedBackRecord}
 use Rattle.runs.specs.Lent.{backSteps}
 use Rattle.masks.proofs.Row.{one-more, ended}
@@ -23,17 +23,17 @@ use Rattle.runs.proofs.back.opened_recorded.Statement.{statement}
 use Rattle.runs.proofs.back.opened_recorded.Tie as tie
 
 -- the constant of a run's end
-abbrev end : List ℕ → ℕ → ℕ → ℕ → List ℕ
-end M o d n = mask M 0 ((o + d * n) % 16)
+abbrev end : List ℕ → List ℕ → ℕ → ℕ → ℕ → List ℕ
+end M p o d n = mask M p ((o + d * n) % 16)
 
 abbrev Inv-loop : tie.InvT-loop
-Inv-loop w n masks boxes rows columns offset states₀ s₀ last m₀ states s m =
-    (s .label .0 ≡ (offset + masks .1 * (n - s .round .0)) % 16) × (s .round .0 + (m + 2) / 6 ≡ n)
+Inv-loop w n masks places covers boxes rows columns states₀ s₀ last m₀ states s m =
+    (s .label .0 ≡ (s₀ .label .0 + masks .1 * (n - s .round .0)) % 16) × (s .round .0 + (m + 2) / 6 ≡ n)
     × ((m ≤ last) × (length (s₀ .bytes) ≡ 16) × (length states ≡ 96 * n + 16)
-    × Written (backSteps n w boxes rows columns offset (masks .1) (end (masks .0) offset (masks .1) n)) (s₀ .bytes) (96 * n + 16) (block ∷ turns after m) (s .bytes) states)
+    × Written (backSteps n w boxes rows columns (masks .2 .0) (s₀ .label .0) (masks .1) (end (masks .0) (masks .2 .0) (s₀ .label .0) (masks .1) n)) (s₀ .bytes) (96 * n + 16) (block ∷ turns after m) (s .bytes) states)
 
 abbrev μ-loop : tie.MeasureT-loop
-μ-loop w n masks boxes rows columns offset states₀ s₀ last m₀ states s m = last - m
+μ-loop w n masks places covers boxes rows columns states₀ s₀ last m₀ states s m = last - m
 
 room : (n : ℕ) → 16 ≤ 96 * n + 16
 room n = omega arith
@@ -52,8 +52,8 @@ begin c =
     let k = covering .cover .ensures in
     let size : length (covering .cover .result .bytes) ≡ 16 = ap length (k .0) ∙ add-size _ _ in
     let none = none-done (a .n) (covering .cover .result .round .0) (k .2 ∙ counted .last .ensures) in
-    let w = written-first (back-sized _ _ _ _ _ _ _ _) size block (a .states .now) (room (a .n)) (start .pre .6) refl (k .3) in
-    (first-label (a .offset) (a .masks .1) _ _ (k .1) (none .0), none .1, (search needs, size, w .held .size, w))
+    let w = written-first (back-sized _ _ _ _ _ _ _ _ _) size block (a .states .now) (room (a .n)) (start .pre .6) refl (k .3) in
+    (first-label _ (a .masks .1) _ _ (rw (k .1) (start .pre .7)) refl (none .0), none .1, (search needs, size, w .held .size, w))
 
 point-room : (n m : ℕ) → 0 < n → m < 6 * n - 1 → m + 1 < 6 * n
 point-room n m pos lt = omega (arith, pos, lt)
@@ -63,7 +63,7 @@ point-lent c κs =
     let at-loop = c .before .before in
     let l = at-loop .loop in
     let start = at-loop .before .before .before .before .before .before .before .before in
-    (point-room (start .args .n) (l .m) (start .pre .0) (c .before .loop-test .taken), start .pre .1, label-below _ _ (l .inv .0), l .inv .1, start .pre .2, start .pre .3, start .pre .4, start .pre .5, search needs)
+    (point-room (start .args .n) (l .m) (start .pre .0) (c .before .loop-test .taken), start .pre .1, label-below _ _ (l .inv .0), l .inv .1, start .pre .2, start .pre .3, start .pre .4, start .pre .5, search needs, start .pre .8)
 
 -- the round of the next state
 next-round : (k m n : ℕ) → k + (m + 3) / 6 ≡ n → k + (m + 1 + 2) / 6 ≡ n
@@ -84,7 +84,7 @@ again c =
     let h = l .inv .2 in
     let lt : l .m < 6 * n - 1 = in-loop .loop-test .taken in
     let made = k .0 _ _ (l .inv .0) in
-    let w = written-turn (back-sized _ _ _ _ _ _ _ _) (h .1) block after 16 (λ i. refl) (l .m) (turn-room n (l .m) (start .pre .0) lt) (h .3) (recorded-one (made .0) (k .2)) in
+    let w = written-turn (back-sized _ _ _ _ _ _ _ _ _) (h .1) block after 16 (λ i. refl) (l .m) (turn-room n (l .m) (start .pre .0) lt) (h .3) (recorded-one (made .0) (k .2)) in
     (made .1, next-round (point .point .result .round .0) (l .m) n (k .1), (one-more lt, h .1, w .held .size, w))
 
 -- the round at the end
@@ -97,7 +97,7 @@ uncovered-lent c κs =
     let l = at-loop .loop in
     let start = at-loop .before .before .before .before .before .before .before .before in
     let turned : l .m ≡ 6 * start .args .n - 1 = ended (l .inv .2 .0) (c .before .loop-test .left) in
-    (label-below _ _ (l .inv .0), last-round (l .s .round .0) (l .m) (start .args .n) (l .inv .1) (start .pre .0) turned, search needs, start .pre .7)
+    (label-below _ _ (l .inv .0), last-round (l .s .round .0) (l .m) (start .args .n) (l .inv .1) (start .pre .0) turned, search needs, start .pre .9)
 
 -- how many bytes all of them are
 sizes : (n : ℕ) → 0 < n → (16 * (6 * n - 1) + 16 + 16 ≤ 96 * n + 16) × (16 * (6 * n - 1) + 16 + 16 ≡ 96 * n + 16) × (16 ≡ 16 * (6 * n - 1) + 16 + 16 - (16 * (6 * n - 1) + 16))
@@ -109,10 +109,10 @@ all-length n pos =
     omega (arith, pos, e, turns-length block after 16 (λ i. refl) (6 * n - 1))
 
 -- what uncovers is the last step
-ending : (n : ℕ) (w b rows columns : List ℕ) (o d : ℕ) (s : List ℕ) (l : ℕ) (M : List ℕ) → l ≡ (o + d * n) % 16
-    → s ⊞ mask M 0 l ≡ backSteps n w b rows columns o d (end M o d n) (uncovered (n - 1)) s
+ending : (n : ℕ) (w b rows columns p : List ℕ) (o d : ℕ) (s : List ℕ) (l : ℕ) (M : List ℕ) → l ≡ (o + d * n) % 16
+    → s ⊞ mask M p l ≡ backSteps n w b rows columns p o d (end M p o d n) (uncovered (n - 1)) s
 unfolding backSteps
-ending n w b rows columns o d s l M e = ap (λ (j : ℕ). s ⊞ mask M 0 j) e
+ending n w b rows columns p o d s l M e = ap (λ (j : ℕ). s ⊞ mask M p j) e
 
 returns : tie.Need-returns Inv-loop μ-loop
 unfolding maskedBackRecord
@@ -128,10 +128,12 @@ returns c =
     let start = known .before in
     let a = start .args in
     let n : ℕ = a .n in
-    let o : ℕ = a .offset in
+    let p : List ℕ = a .masks .2 .0 in
+    let k = covering .cover .ensures in
+    let o : ℕ = covering .cover .result .label .0 in
     let d : ℕ = a .masks .1 in
     let M : List ℕ = a .masks .0 in
-    let f = backSteps n (a .w .now) (a .boxes .now) (a .rows .now) (a .columns .now) o d (end M o d n) in
+    let f = backSteps n (a .w .now) (a .boxes .now) (a .rows .now) (a .columns .now) p o d (end M p o d n) in
     let b : Bytes 16 (a .block .0) = field-bytes {xs = a .block .0} (start .good .0 .1 .1 .0) in
     let m : Bytes 16 M = field-bytes {xs = M} (start .good .1 .1 .1 .0 .1 .1 .0) in
     let w : Bytes (16 * n + 16) (a .w .now) = record { size = start .pre .2; byte = λ i. byte (at (a .w .now) i) (known .shared-slice-known .given i) } in
@@ -142,10 +144,11 @@ returns c =
     let room = sizes n (start .pre .0) in
     let z : ℕ = 16 * (6 * n - 1) + 16 in
     let points : List Back = block ∷ turns after (6 * n - 1) in
-    let last = written-step (back-sized n (a .w .now) (a .boxes .now) (a .rows .now) (a .columns .now) o d (end M o d n)) (h .1) (rw turned at (h .3)) (uncovered (n - 1)) z (z + 16) (turns-length block after 16 (λ i. refl) (6 * n - 1)) (room .2) (omega arith) (room .0) (ending n (a .w .now) (a .boxes .now) (a .rows .now) (a .columns .now) o d (l .s .bytes) (l .s .label .0) M label) (finished .uncover-plain .ensures) in
-    written-all (back-sized n (a .w .now) (a .boxes .now) (a .rows .now) (a .columns .now) o d (end M o d n)) (h .1) last (all-length n (start .pre .0)) .held
+    let last = written-step (back-sized n (a .w .now) (a .boxes .now) (a .rows .now) (a .columns .now) p o d (end M p o d n)) (h .1) (rw turned at (h .3)) (uncovered (n - 1)) z (z + 16) (turns-length block after 16 (λ i. refl) (6 * n - 1)) (room .2) (omega arith) (room .0) (ending n (a .w .now) (a .boxes .now) (a .rows .now) (a .columns .now) p o d (l .s .bytes) (l .s .label .0) M label) (finished .uncover-plain .ensures) in
+    written-all (back-sized n (a .w .now) (a .boxes .now) (a .rows .now) (a .columns .now) p o d (end M p o d n)) (h .1) last (all-length n (start .pre .0)) .held
     ∙ ap (λ (ps : List Back). bytes (run f (covering .cover .result .bytes) ps)) (all-points n (start .pre .0))
-    ∙ ap bytes (lent-back m w o d n b (start .pre .0) (covering .cover .result .bytes) (a .boxes .now) (a .rows .now) (a .columns .now) (end M o d n) (covering .cover .ensures .0) (start .pre .3) (start .pre .4) (start .pre .5) refl)
+    ∙ ap bytes (lent-back m w p o d n b (start .pre .0) (covering .cover .result .bytes) (a .boxes .now) (a .rows .now) (a .columns .now) (end M p o d n) (k .0 ∙ ap (λ (j : ℕ). a .block .0 ⊞ mask M p j) (sym (k .1))) (start .pre .3) (start .pre .4) (start .pre .5) refl)
+    ∙ ap (λ (j : ℕ). bytes (maskedBackRecord n M (advanced p j) d (a .w .now) (a .block .0))) (k .1)
 
 -- Where a part begins and ends. Apart, so that the searches do not add up.
 mul-a : tie.Need-mul-a Inv-loop μ-loop

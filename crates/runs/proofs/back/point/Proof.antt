@@ -25,7 +25,7 @@ boxes-lent c κs =
     let m = c .before in
     let start = m .before .before .before in
     let a = start .args in
-    (start .pre .5, start .pre .2, positive (a .s .round .0) (a .m) (a .n) (start .pre .3) (m .match .keys3) (start .pre .0), search needs)
+    (start .pre .5, start .pre .2, positive (a .s .round .0) (a .m) (a .n) (start .pre .3) (m .match .keys3) (start .pre .0), search needs, start .pre .9)
 
 key-lent : tie.Need-add-key-requires
 key-lent c κs =
@@ -44,42 +44,42 @@ first-is c =
     let step = c .before .before in
     let here = step .before .before in
     let k = step .add-key2 .ensures in
-    first-done _ _ _ _ _ _ _ _ _ _ (here .before .before .before .before .pre .3) (here .if1 .taken) (k .0) (k .1) (k .2) (k .3)
+    first-done _ _ _ _ _ _ _ _ _ _ _ (here .before .before .before .before .pre .3) (here .if1 .taken) (k .0) (k .1) (k .2) (k .3)
 
 unshifted-is : tie.Need-returns-2
 unshifted-is c =
     let step = c .before .before in
     let m = step .before .before in
     let k = step .inv-shift-rows .ensures in
-    unshifted-done _ _ _ _ _ _ _ _ _ _ (m .before .before .before .pre .3) (m .match .keys1) (k .0) (k .1) (k .2) (k .3)
+    unshifted-done _ _ _ _ _ _ _ _ _ _ _ (m .before .before .before .pre .3) (m .match .keys1) (k .0) (k .1) (k .2) (k .3)
 
 corrected-is : tie.Need-returns-3
 corrected-is c =
     let step = c .before .before in
     let m = step .before .before in
     let k = step .compensate .ensures in
-    corrected-done _ _ _ _ _ _ _ _ _ _ (m .before .before .before .pre .3) (m .match .keys2) (k .0) (k .1) (k .2) (k .3)
+    corrected-done _ _ _ _ _ _ _ _ _ _ _ (m .before .before .before .pre .3) (m .match .keys2) (k .0) (k .1) (k .2) (k .3)
 
 unboxed-is : tie.Need-returns-4
 unboxed-is c =
     let step = c .before .before in
     let m = step .before .before in
     let k = step .inverse-boxes .ensures in
-    unboxed-done _ _ _ _ _ _ _ _ _ _ (m .before .before .before .pre .3) _ (m .match .keys3) (k .0) (k .1) (k .2) (k .3)
+    unboxed-done _ _ _ _ _ _ _ _ _ _ _ (m .before .before .before .pre .3) _ (m .match .keys3) (k .0) (k .1) (k .2) (k .3)
 
 keyed-is : tie.Need-returns-5
 keyed-is c =
     let step = c .before .before in
     let m = step .before .before in
     let k = step .add-key .ensures in
-    keyed-done _ _ _ _ _ _ _ _ _ _ (m .before .before .before .pre .3) (m .match .keys4) (k .0) (k .1) (k .2) (k .3)
+    keyed-done _ _ _ _ _ _ _ _ _ _ _ (m .before .before .before .pre .3) (m .match .keys4) (k .0) (k .1) (k .2) (k .3)
 
 unmixed-is : tie.Need-returns-6
 unmixed-is c =
     let step = c .before .before in
     let m = step .before .before in
     let k = step .inv-mix-columns .ensures in
-    unmixed-done _ _ _ _ _ _ _ _ _ _ (m .before .before .before .pre .3) (m .match .keys5) (k .0) (k .1) (k .2) (k .3)
+    unmixed-done _ _ _ _ _ _ _ _ _ _ _ (m .before .before .before .pre .3) (m .match .keys5) (k .0) (k .1) (k .2) (k .3)
 
 restored-is : tie.Need-returns-7
 restored-is c =
@@ -89,7 +89,7 @@ restored-is c =
     let start = m .before .before .before in
     let k = step .compensate2 .ensures in
     let rest = m .match .rest in
-    restored-done _ _ _ _ _ _ _ _ _ _ (start .pre .3) (other (start .args .m) (rest .0 .0 .0 .0 .1) (rest .0 .0 .0 .1) (rest .0 .0 .1) (rest .0 .1) (rest .1)) (here .if1 .left) (k .0) (k .1) (k .2) (k .3)
+    restored-done _ _ _ _ _ _ _ _ _ _ _ (start .pre .3) (other (start .args .m) (rest .0 .0 .0 .0 .1) (rest .0 .0 .0 .1) (rest .0 .0 .1) (rest .0 .1) (rest .1)) (here .if1 .left) (k .0) (k .1) (k .2) (k .3)
 
 pub point-spec : {M : Type 1} → statement M
 point-spec =

@@ -4,7 +4,7 @@ use mathlib.Core.Path.{_∙_, ap}
 use Prim.Native.Nat.{ℕ, _+_, _%_}
 use borrow.Author.Needs.{needs}
 use Rattle.aes.specs.State.{shiftRows}
-use Rattle.masks.specs.Order.{boxedBy}
+use Rattle.masks.specs.Order.{boxedBy, boxesAt}
 use Rattle.runs.proofs.run.half.Statement.{statement}
 use Rattle.runs.proofs.run.half.Tie as tie
 
@@ -17,7 +17,7 @@ returns c =
     let k = keyed .add-key .ensures in
     let s = shifted .shift-rows .ensures in
     let t = boxed .boxes .ensures in (
-      s .0 ∙ ap shiftRows (t .0 ∙ λ i. boxedBy (a .lent .now) (k .1 i) (k .0 i)),
+      s .0 ∙ ap shiftRows (t .0 ∙ λ i. boxedBy (a .lent .now) (boxesAt (a .masks .2 .0) (k .1 i)) (k .0 i)),
       s .1 ∙ t .1 ∙ ap (λ (l : ℕ). (l + a .masks .1) % 16) (k .1),
       s .2 ∙ t .2 ∙ ap (λ (r : ℕ). r + 1) (k .2),
     )

@@ -1,9 +1,7 @@
 -- The first mask on the block, and that it is kept.
 -- Assumes nothing.
-use mathlib.Core.Path.{ap, _∙_}
-use Prim.Native.Nat.{ℕ}
+use mathlib.Core.Path.{_∙_}
 use borrow.Author.Needs.{needs}
-use Rattle.masks.specs.Mask.{_⊞_, mask}
 use Rattle.runs.proofs.steps.cover.Statement.{statement}
 use Rattle.runs.proofs.steps.cover.Tie as tie
 
@@ -11,10 +9,8 @@ returns : tie.Need-returns
 returns c =
     let kept = c .before .before in
     let under = kept .before .before in
-    let make = under .before in
-    let a = make .before .before .args in
-    let covered = under .under .ensures ∙ ap (λ (l : ℕ). a .block .0 ⊞ mask (a .masks .0) 0 l) (make .make .ensures) in
-    (kept .kept .ensures .0 ∙ covered, kept .kept .ensures .1 ∙ make .make .ensures, kept .kept .ensures .2, kept .kept .ensures .3)
+    let k = kept .kept .ensures in
+    (k .0 ∙ under .under .ensures, k .1, k .2, k .3)
 
 pub cover-spec : {M : Type 1} → statement M
-cover-spec = tie.close (tie.spec (λ c κs. search needs) (λ c κs. search needs) (λ c κs. search needs) (λ c. search needs) returns)
+cover-spec = tie.close (tie.spec (λ c κs. search needs) (λ c κs. search needs) (λ c. search needs) returns)

@@ -2,7 +2,7 @@
 
 use super::records::{Recorded, DECRYPTION, ENCRYPTION};
 use super::{edge, Edge};
-use crate::masked::PUBLISHED;
+use crate::masked::{of_one, PUBLISHED};
 use slipgrease::calls;
 
 /// 0, 2, 3 and above 15, behind the offset, before the form.
@@ -25,16 +25,16 @@ pub fn refused() -> Vec<Edge> {
         (0, 4, 1, 7),
     ] {
         let name = |call: &str| format!("reply to offset {offset}, step {step}, form {form}, {call}");
-        let published = calls::encrypt_published(&w, &block, &mut [0; 16], offset, step, form);
-        let masked = calls::encrypt_masked(&w, &block, &mut [0; 16], &PUBLISHED, offset, step, form);
+        let published = calls::encrypt_published(&w, &block, &mut [0; 16], &[offset; 16], step, form);
+        let masked = calls::encrypt_masked(&w, &block, &mut [0; 16], &PUBLISHED, &[offset; 16], step, form);
         let many = calls::encrypt_blocks(&w, &block, &mut [0; 16], &[offset], step, form);
         edges.push(edge(name("published masks"), published, expected));
         edges.push(edge(name("any masks"), masked, expected));
         edges.push(edge(name("many blocks"), many, expected));
         if form == 0 {
             let name = |call: &str| format!("reply to offset {offset}, step {step}, {call}, decrypting");
-            let published = calls::decrypt_published(&w, &block, &mut [0; 16], offset, step);
-            let masked = calls::decrypt_masked(&w, &block, &mut [0; 16], &PUBLISHED, offset, step);
+            let published = calls::decrypt_published(&w, &block, &mut [0; 16], &[offset; 16], step);
+            let masked = calls::decrypt_masked(&w, &block, &mut [0; 16], &PUBLISHED, &[offset; 16], step);
             edges.push(edge(name("published masks"), published, expected));
             edges.push(edge(name("any masks"), masked, expected));
         }
@@ -47,10 +47,10 @@ pub fn refused() -> Vec<Edge> {
     edges
 }
 
-/// Positions count by one and rounds by the step. M0, M4 .. M6 are 00, 53, 5c, 65.
+/// At one offset positions count by one, and rounds by the step. M0, M4 .. M6 are 00, 53, 5c, 65.
 pub fn masks() -> Vec<Edge> {
     let covers = |recorded: &Recorded| {
-        let (plain, masked) = (recorded.bytes(&[0; 16], 0, 5), recorded.bytes(&PUBLISHED, 0, 5));
+        let (plain, masked) = (recorded.bytes(&[0; 16], &of_one(0), 5), recorded.bytes(&PUBLISHED, &of_one(0), 5));
         move |point: usize, byte: usize| plain[16 * point + byte] ^ masked[16 * point + byte]
     };
     let (cover, cover_back) = (covers(&ENCRYPTION), covers(&DECRYPTION));

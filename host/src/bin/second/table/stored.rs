@@ -4,13 +4,13 @@ use super::{plain_block, write, Call};
 use crate::answer::{number, Answer};
 use crate::cipher::{add, encrypt, State};
 use crate::lent::Lent;
-use crate::masked::Masking;
+use crate::masked::{of_one, Masking, PUBLISHED};
 use crate::replies::Cause::*;
 use slipgrease::calls;
 
 /// What early modules left on the finished block: Mask(offset + 14), of the published masks at step 1.
 fn left_on(lent: &Lent) -> State {
-    Masking { step: 1, ..Masking::published(lent) }.mask(14)
+    Masking { offsets: of_one(lent.offset), step: 1, masks: PUBLISHED }.mask(14)
 }
 
 /// Refused, it stops at the first call.

@@ -42,11 +42,14 @@ $ slipgrease decrypt --key-file key.txt 8ea2b7ca516745bfeafc49904b496089
         usage: "mask --offset O [--step D] [--masks MASKS] KEY BLOCK",
         summary: "a block encrypted by the module's engine",
         text: "\
-Prints the ciphertext that a masked run ends with, at an offset from 0 to 15 that the caller chooses. The step is how far the
-labels of the masks advance in a round, 1 or 4 to 15. Where they are not named, the step is 1 and the masks are the published ones.
+Prints the ciphertext that a masked run ends with, at an offset from 0 to 15 that the caller chooses, or at sixteen with commas
+between them, one for each byte of the block; 3 is short for 3,4,5,6,7,8,9,10,11,12,13,14,15,0,1,2. The step is how far the labels
+of the masks advance in a round, 1 or 4 to 15. Where they are not named, the step is 1 and the masks are the published ones.
 --key-file FILE or --schedule SCHEDULE can stand for KEY.",
         example: "\
 $ slipgrease mask --offset 3 --key-file key.txt 00112233445566778899aabbccddeeff
+8ea2b7ca516745bfeafc49904b496089
+$ slipgrease mask --offset 3,9,0,15,7,7,12,4,1,10,2,8,5,14,6,11 --key-file key.txt 00112233445566778899aabbccddeeff
 8ea2b7ca516745bfeafc49904b496089",
     },
     Help {
@@ -54,7 +57,7 @@ $ slipgrease mask --offset 3 --key-file key.txt 00112233445566778899aabbccddeeff
         usage: "unmask --offset O [--step D] [--masks MASKS] KEY BLOCK",
         summary: "a block decrypted by the module's engine",
         text: "\
-Prints the plaintext that a masked decryption ends with. Offset, step and masks are as for mask, and need not be those with which
+Prints the plaintext that a masked decryption ends with. Offsets, step and masks are as for mask, and need not be those with which
 the block was encrypted. --key-file FILE or --schedule SCHEDULE can stand for KEY.",
         example: "\
 $ slipgrease unmask --offset 3 --key-file key.txt 8ea2b7ca516745bfeafc49904b496089
@@ -171,9 +174,11 @@ $ slipgrease convert 7e5db7c5675e16e38f96dc0ae8e5a640 0
         usage: "record [--decrypt] [--offset O] [--step D] [--masks MASKS] [--against FILE] [--json] [--svg FILE] KEY BLOCK",
         summary: "the states of a run, of two side by side, or beside a receiver's dump",
         text: "\
-Prints the 71 states of an encryption, or with --decrypt the 85 of a decryption. Without an offset the run is plain. With one it
-is masked, and each state stands with the plain one, its mask and the mask's name. The step is 1 unless another is named, 4 to 15,
-and the masks are the published ones unless sixteen others are given. --key-file FILE or --schedule SCHEDULE can stand for KEY.
+Prints the 71 states of an encryption, or with --decrypt the 85 of a decryption. Without an offset the run is plain. With one, or
+with sixteen as for mask, it is masked, and each state stands with the plain one, its mask and the mask's name. That tells the label
+of byte 0, as Mask(7), or with sixteen offsets o, how far all labels are on from these, as Mask(o+4). The step is 1 unless another
+is named, 4 to 15, and the masks are the published ones unless sixteen others are given. --key-file FILE or --schedule SCHEDULE can
+stand for KEY.
 
 Rounds are counted from 0, and begin with their key, round 0 with key 0; key 14 ends round 13. Those of a decryption begin behind
 key 14, with InvShiftRows, and have the keys from 13 down to 0.
@@ -183,13 +188,15 @@ state 1 is round key 0, and state 5 xor state 6 round key 1; of a decryption sta
 13. Keep a record as you keep the key.
 
 A second run is put beside the first where --offset2 O, --step2 D, --masks2 MASKS, --key2 KEY or --block2 BLOCK is given; what it
-is not given it has from the first. --against FILE puts what a receiver has dumped beside the run: 1136 bytes, or 71 lines of 32 hex
-digits; of a decryption 1360 bytes or 85 lines; - is standard input. The xor of what is under the masks is printed where that
-differs, dashes where the two differ by their masks alone, and dots where they are equal; then how many bytes differ, the first of
-them, and the masks there: whether a dump is covered by a mask of another label than the one that is due. A dump whose first state
-is covered as at another offset is read at that offset. The status is 3 if any byte differs.
+is not given it has from the first, and sixteen other offsets are called o2. --against FILE puts what a receiver has dumped beside
+the run: 1136 bytes, or 71 lines of 32 hex digits; of a decryption 1360 bytes or 85 lines; - is standard input. The xor of what is
+under the masks is printed where that differs, dashes where the two differ by their masks alone, and dots where they are equal; then
+how many bytes differ, the first of them, and the masks there: whether a dump is covered by a mask of another label than the one
+that is due. A dump whose first state is covered as at another offset, or as at offsets that are all equally far on from the run's,
+is read at these. The status is 3 if any byte differs.
 
---json prints the same as JSON. --svg FILE draws it, in a file with mode 600, for its owner alone; - is standard output.",
+--json prints the same as JSON. A run has \"offset\" there, or in place of it, where there are sixteen, the list \"offsets\". --svg FILE
+draws it, in a file with mode 600, for its owner alone; - is standard output.",
         example: "\
 $ slipgrease record --key-file key.txt 00112233445566778899aabbccddeeff
  n  after            state

@@ -1,9 +1,10 @@
 //! Two sides of a comparison: a run and a second one, or a run and a receiver's dump.
 
+use crate::record::cover::{Cover, Start};
 use crate::record::dump::{self, Found};
-use crate::record::run::{xor, Cover, Recorded, Run};
+use crate::record::run::{xor, Recorded, Run};
 use crate::shown::listed;
-use slipgrease::{Direction, Offset, Point};
+use slipgrease::{Direction, Point};
 
 pub struct Pair {
     pub direction: Direction,
@@ -16,11 +17,11 @@ pub struct Pair {
     /// What stands over a side in a picture.
     pub captions: [String; 2],
     pub sides: [Recorded; 2],
-    /// Whether the second side is a dump, which should be as the first, and the offset from which masks are due then.
+    /// Whether the second side is a dump, which should be as the first, and where masks are due from then.
     pub is_dump: bool,
-    pub due_from: Option<Offset>,
-    /// The other offset at which the states of a dump are read that no mask explains.
-    pub read_at: Option<Offset>,
+    pub due_from: Option<Start>,
+    /// The other start at which the states of a dump are read that no mask explains.
+    pub read_at: Option<Start>,
     /// Of the first byte of a dump that differs under the masks, a mask that would explain it by itself.
     pub alone: Option<Cover>,
     /// Whether either side has masks.
@@ -54,10 +55,12 @@ impl Counts {
 
 impl Pair {
     pub fn of_runs(first: &Run, second: &Run) -> Pair {
-        let another = |what: &str| match what {
-            "masks" => "other masks".to_string(),
-            "offset" if first.masked.is_none() => "an offset".to_string(),
-            what => format!("another {what}"),
+        let sixteen = [first, second].iter().any(|run| run.masked.map_or(false, |masked| masked.start.one().is_none()));
+        let another = |what: &str| match (what, first.masked) {
+            ("masks", _) => "other masks".to_string(),
+            ("offset", None) => if sixteen { "offsets" } else { "an offset" }.to_string(),
+            ("offset", Some(_)) if sixteen => "other offsets".to_string(),
+            (what, _) => format!("another {what}"),
         };
         let has: Vec<String> = first.another(second).into_iter().map(another).collect();
         let told = match has.is_empty() {
@@ -92,7 +95,7 @@ impl Pair {
             // A plain run has masks beside it only where the dump has some.
             masked: run.masked.is_some() || recorded.covers != run.recorded.covers,
             is_dump: true,
-            due_from: run.masked.map(|masked| masked.offset),
+            due_from: run.masked.map(|masked| masked.start),
             read_at,
             alone,
             sides: [run.recorded.clone(), recorded],

@@ -3,10 +3,11 @@
 use crate::fault::Fault;
 use crate::hex;
 use crate::input::Input;
-use crate::record::run::{xor, Cover, Masked, Recorded, Run};
+use crate::record::cover::{Cover, Start};
+use crate::record::run::{xor, Masked, Recorded, Run};
 use crate::shown::count;
 use crate::words::words_of;
-use slipgrease::{Direction, Masks, Offset, Point, Schedule, Stage, Step};
+use slipgrease::{Direction, Masks, Offset, Offsets, Point, Schedule, Stage, Step};
 use std::io::Read;
 
 /// More than any dump has, with a word on every line.
@@ -60,14 +61,14 @@ fn other_way(direction: Direction, bytes: &[u8]) -> &'static str {
 /// A dump beside a run.
 pub struct Found {
     pub recorded: Recorded,
-    /// The other offset at which states are read that no mask explains.
-    pub read_at: Option<Offset>,
+    /// The other start at which states are read that no mask explains.
+    pub read_at: Option<Start>,
     /// Of the first byte that differs under the masks, a mask that would explain it by itself.
     pub alone: Option<Cover>,
 }
 
 /// A state that is the run's plain one under any mask of the rules is taken to be under that mask. Any other is taken to be under
-/// the one that is due, or where the dump is at another offset, that is due there, so that what is under it differs.
+/// the one that is due, or where the dump has another start, that is due there, so that what is under it differs.
 pub fn found(run: &Run, states: Vec<u8>) -> Found {
     let rules = Rules::new(run);
     let (recorded, due) = (&run.recorded, run.recorded.masks());
@@ -77,7 +78,7 @@ pub fn found(run: &Run, states: Vec<u8>) -> Found {
         false => rules.explain(here, state(&lying, here)),
     };
     let explained: Vec<Option<Cover>> = (0..rules.points.len()).map(explain).collect();
-    let read_at = rules.other_offset(&explained, &recorded.covers);
+    let read_at = rules.other_start(&explained, &recorded.covers);
     let (mut plain, mut covers) = (Vec::new(), Vec::new());
     for (here, explained) in explained.into_iter().enumerate() {
         let (under, cover) = match (explained, read_at) {
@@ -90,34 +91,36 @@ pub fn found(run: &Run, states: Vec<u8>) -> Found {
     }
     let first = (0..plain.len()).find(|&byte| plain[byte] != recorded.plain[byte]);
     let alone = first.and_then(|byte| rules.explain_byte(byte, lying[byte]));
-    Found { recorded: Recorded { states, plain, covers }, read_at: read_at.map(|rule| rules.offsets[rule]), alone }
+    Found { recorded: Recorded { states, plain, covers }, read_at: read_at.map(|rule| rules.starts[rule]), alone }
 }
 
 fn state(states: &[u8], here: usize) -> &[u8] {
     &states[16 * here..][..16]
 }
 
-/// The masks of runs that differ from a run in their offset alone. Beside a plain run they are the published ones, of step 1.
+/// The masks of runs that differ from a run in this alone, that they begin so many labels on from its offsets. Beside a plain run
+/// they are the published ones, of each offset and of step 1.
 struct Rules {
     points: Vec<Point>,
     step: Step,
-    offsets: Vec<Offset>,
-    /// Those of each offset.
+    starts: Vec<Start>,
+    /// Those of each start.
     masks: Vec<Vec<u8>>,
 }
 
 impl Rules {
     fn new(run: &Run) -> Rules {
-        let published = Masked { masks: Masks::PUBLISHED, offset: Offset::new(0).expect("at most 15"), step: Step::ONE };
-        let Masked { masks, offset, step } = run.masked.unwrap_or(published);
-        // From the run's own offset on, so that of masks that are alike the nearest label is named.
-        let offsets: Vec<Offset> = (0..16).map(|n| Offset::new((offset.number() + n) % 16).expect("below 16")).collect();
-        let masks = offsets.iter().map(|&offset| ruled(run.direction, &masks, offset, step)).collect();
-        Rules { points: run.direction.points().collect(), step, offsets, masks }
+        let zero = Start::new(Offset::new(0).expect("at most 15"), "o");
+        let published = Masked { masks: Masks::PUBLISHED, start: zero, step: Step::ONE };
+        let Masked { masks, start, step } = run.masked.unwrap_or(published);
+        // From the run's own start on, so that of masks that are alike the nearest label is named.
+        let starts: Vec<Start> = (0..16).map(|labels| start.on(labels)).collect();
+        let masks = starts.iter().map(|start| ruled(run.direction, &masks, start.reached(), step)).collect();
+        Rules { points: run.direction.points().collect(), step, starts, masks }
     }
 
     fn cover(&self, here: usize, rule: usize) -> Cover {
-        Cover(Some((self.points[here], self.offsets[rule], self.step)))
+        Cover(Some((self.points[here], self.starts[rule], self.step)))
     }
 
     /// The mask that lies over a state: first as the mask of its point, then as one of any other.
@@ -134,20 +137,20 @@ impl Rules {
         Some(self.cover(here, rule))
     }
 
-    /// The other offset at which a dump is to be read that masks do not explain: its first state shows it, and none is as due.
-    fn other_offset(&self, explained: &[Option<Cover>], due: &[Cover]) -> Option<usize> {
+    /// The other start at which a dump is to be read that masks do not explain: its first state shows it, and none is as due.
+    fn other_start(&self, explained: &[Option<Cover>], due: &[Cover]) -> Option<usize> {
         let mut covered = self.points.iter().filter(|point| point.stage() != Stage::Uncovering).map(|point| point.number());
         let is_other = explained.contains(&None) && covered.all(|here| explained[here] != Some(due[here]));
         (0..16).find(|&rule| is_other && explained[0] == Some(self.cover(0, rule)))
     }
 }
 
-/// The masks of a run at an offset, whatever it encrypts: what its states and those of a run under masks 00 differ in.
-fn ruled(direction: Direction, masks: &Masks, offset: Offset, step: Step) -> Vec<u8> {
+/// The masks of a run at offsets, whatever it encrypts: what its states and those of a run under masks 00 differ in.
+fn ruled(direction: Direction, masks: &Masks, offsets: Offsets, step: Step) -> Vec<u8> {
     let (any, block) = (Schedule::new([0; 240]), [0; 16]);
     let record = |masks: &Masks| match direction {
-        Direction::Encryption => any.record_masked(&block, masks, offset, step),
-        Direction::Decryption => any.record_masked_decryption(&block, masks, offset, step),
+        Direction::Encryption => any.record_masked(&block, masks, offsets, step),
+        Direction::Decryption => any.record_masked_decryption(&block, masks, offsets, step),
     };
     xor(record(masks).as_bytes(), record(&Masks::new([0; 16])).as_bytes())
 }

@@ -6,7 +6,8 @@ use crate::record::compare::{Counts, Pair};
 use crate::record::run::{Masked, Recorded, Run};
 use slipgrease::{Direction, Point};
 
-/// `second` is there where two runs are compared, `dump` where a run is compared with one, and `difference` with either.
+/// `second` is there where two runs are compared, `dump` where a run is compared with one, and `difference` with either. A run has
+/// `offset`, or `offsets` in place of it where it has sixteen that no one offset stands for.
 pub fn record(first: &Run, second: Option<&Run>, pair: Option<&Pair>) -> String {
     let mut parts = vec![("direction", string(&first.direction.to_string())), ("run", run(first))];
     if let Some(second) = second {
@@ -24,9 +25,14 @@ pub fn record(first: &Run, second: Option<&Run>, pair: Option<&Pair>) -> String 
 
 fn run(run: &Run) -> String {
     let given = |of: fn(&Masked) -> String| run.masked.as_ref().map_or("null".to_string(), of);
+    let offsets = match run.masked.map(|masked| (masked.start.one(), masked.start.offsets)) {
+        None => ("offset", "null".to_string()),
+        Some((Some(offset), _)) => ("offset", offset.to_string()),
+        Some((None, sixteen)) => ("offsets", format!("{:?}", sixteen.as_bytes())),
+    };
     object(vec![
         ("block", bytes(&run.block)),
-        ("offset", given(|masked| masked.offset.number().to_string())),
+        offsets,
         ("step", given(|masked| masked.step.number().to_string())),
         ("masks", given(|masked| bytes(masked.masks.as_bytes()))),
         ("states", states(run.direction, &run.recorded)),

@@ -3,8 +3,9 @@
 use crate::cipher::{explained, Keyed, Masking};
 use crate::fault::Fault;
 use crate::hex::digits;
+use crate::record::cover::{Cover, Start};
 use crate::words::{Given, Number};
-use slipgrease::{Direction, Masks, Offset, Point, Refusal, Step};
+use slipgrease::{Direction, Masks, Offsets, Refusal, Step};
 
 /// What a run is asked for with.
 pub struct Asked {
@@ -12,32 +13,16 @@ pub struct Asked {
     pub keyed: Keyed,
     pub block: Given,
     pub masking: Option<Masking>,
+    /// What its offsets are called.
+    pub offsets_called: &'static str,
 }
 
 /// What a masked run is covered with.
 #[derive(Clone, Copy)]
 pub struct Masked {
     pub masks: Masks,
-    pub offset: Offset,
+    pub start: Start,
     pub step: Step,
-}
-
-/// A mask by where the rules have it: at a point of a run at an offset and a step. Nothing lies over the states of a plain run.
-#[derive(Clone, Copy, PartialEq)]
-pub struct Cover(pub Option<(Point, Offset, Step)>);
-
-impl Cover {
-    /// As Mask(7), with what else was done to it, or none.
-    pub fn name(self) -> String {
-        self.0.map_or("none".to_string(), |(point, offset, step)| point.mask(offset, step))
-    }
-
-    /// The same with its label counted from an offset o: Mask(o+4).
-    pub fn counted_from(self, first: Offset) -> String {
-        let further = |offset: Offset| Offset::new((16 + offset.number() - first.number()) % 16).expect("below 16");
-        let counted = self.0.map(|(point, offset, step)| (point, further(offset), step));
-        Cover(counted).name().replace("Mask(", "Mask(o+").replace("Mask(o+0)", "Mask(o)")
-    }
 }
 
 /// Sixteen bytes for each point as they were recorded, what is under their masks, and these.
@@ -65,56 +50,61 @@ pub struct Run {
 
 impl Run {
     pub fn new(asked: Asked) -> Result<Run, Fault> {
-        let Asked { direction, keyed, block, masking } = asked;
+        let Asked { direction, keyed, block, masking, offsets_called } = asked;
         let refused = |refusal| explained(refusal, &keyed, &block, masking.as_ref());
         let mut plain = vec![0; 16 * direction.states()];
         let mut states = plain.clone();
         let masked = match &masking {
             None => None,
-            Some(Masking { masks, offset, step }) => {
+            Some(Masking { masks, offsets, step }) => {
                 let bytes = masks.as_ref().map_or(&Masks::PUBLISHED.as_bytes()[..], |masks| &masks.bytes);
-                let (offset, step) = (offset.value, Number::step(step));
+                let (offsets, step) = (offsets.bytes(), Number::step(step));
                 let record = match direction {
                     Direction::Encryption => slipgrease::record_masked,
                     Direction::Decryption => slipgrease::record_masked_decryption,
                 };
-                record(&keyed.bytes, &block.bytes, bytes, offset, step, &mut states).map_err(refused)?;
+                record(&keyed.bytes, &block.bytes, bytes, &offsets, step, &mut states).map_err(refused)?;
                 let taken = "the library has taken it";
+                let start = Start::new(Offsets::try_from(&offsets[..]).expect(taken), offsets_called);
                 let masks = Masks::try_from(bytes).expect(taken);
-                Some(Masked { masks, offset: Offset::new(offset).expect(taken), step: Step::new(step).expect(taken) })
+                Some(Masked { masks, start, step: Step::new(step).expect(taken) })
             }
         };
         record_plain(direction, &keyed.bytes, &block.bytes, &mut plain).map_err(refused)?;
         if masked.is_none() {
             states = plain.clone();
         }
-        let cover = |point| Cover(masked.map(|Masked { offset, step, .. }| (point, offset, step)));
+        let cover = |point| Cover(masked.map(|Masked { start, step, .. }| (point, start, step)));
         let covers = direction.points().map(cover).collect();
         Ok(Run { direction, schedule: keyed.bytes, block: block.bytes, masked, recorded: Recorded { states, plain, covers } })
     }
 
-    /// The offset and the step, or that it is plain.
+    /// The offset and the step, or that it is plain. Of sixteen offsets it has what they are called.
     pub fn kind(&self) -> String {
         match self.masked {
             None => "plain".to_string(),
-            Some(Masked { offset, step, .. }) => format!("offset {}, step {}", offset.number(), step.number()),
+            Some(Masked { start, step, .. }) => format!("{start}, step {step}"),
         }
     }
 
-    /// The same with the masks and the block.
+    /// The same with all offsets, the masks and the block.
     pub fn named(&self) -> String {
         let way = if self.direction == Direction::Decryption { "decryption, " } else { "" };
+        let kind = match self.masked {
+            Some(Masked { start, step, .. }) if start.one().is_none() => format!("{start} = {}, step {step}", start.offsets),
+            _ => self.kind(),
+        };
         let masks = match self.masked {
             None => String::new(),
             Some(Masked { masks: Masks::PUBLISHED, .. }) => ", the published masks".to_string(),
             Some(Masked { masks, .. }) => format!(", masks {}", digits(masks.as_bytes())),
         };
-        format!("{way}{}{masks}, block {}", self.kind(), digits(&self.block))
+        format!("{way}{kind}{masks}, block {}", digits(&self.block))
     }
 
     /// What of a second run is not as in this one.
     pub fn another(&self, second: &Run) -> Vec<&'static str> {
-        let of = |run: &Run| run.masked.map(|masked| (masked.masks, masked.offset, masked.step));
+        let of = |run: &Run| run.masked.map(|masked| (masked.masks, masked.start.offsets, masked.step));
         let (ours, theirs) = (of(self), of(second));
         let differs = [
             ("key", self.schedule != second.schedule),
@@ -127,11 +117,11 @@ impl Run {
     }
 }
 
-/// The library records no plain decryption by itself; but sixteen masks 00 cover nothing, at any offset and with any step.
+/// The library records no plain decryption by itself; but sixteen masks 00 cover nothing, at any offsets and with any step.
 fn record_plain(direction: Direction, schedule: &[u8], block: &[u8], states: &mut [u8]) -> Result<(), Refusal> {
     match direction {
         Direction::Encryption => slipgrease::record_plain(schedule, block, states),
-        Direction::Decryption => slipgrease::record_masked_decryption(schedule, block, &[0; 16], 0, 1, states),
+        Direction::Decryption => slipgrease::record_masked_decryption(schedule, block, &[0; 16], &[0; 16], 1, states),
     }
 }
 

@@ -1,7 +1,7 @@
 //! What a comparison comes to, in a few sentences.
 
 use crate::record::compare::{Counts, Kind, Pair};
-use crate::record::run::Cover;
+use crate::record::cover::{Cover, Start};
 use slipgrease::{Point, Stage};
 
 pub fn sentences(pair: &Pair) -> Vec<String> {
@@ -13,7 +13,7 @@ pub fn sentences(pair: &Pair) -> Vec<String> {
     let mut said = vec![counted(pair), format!("First difference: {}: {ours}, {theirs}.", place(pair, first))];
     if pair.masked {
         said.extend(masks(pair, first));
-        said.extend(other_offset(pair));
+        said.extend(other_start(pair));
         said.push(match pair.first_under() {
             None => "Under the masks nothing differs.".to_string(),
             Some(byte) if byte == first => format!("Under the mask it differs: xor {:02x}.", pair.under()[byte]),
@@ -68,10 +68,10 @@ fn beside(pair: &Pair, first: usize) -> String {
     }
 }
 
-/// Labels are counted from the run's offset, as the rules have them, and named as in the table too.
+/// Labels are counted from the run's offsets, as the rules have them, and named as in the table too.
 fn against(pair: &Pair, first: usize) -> Vec<String> {
     let [due, found] = [0, 1].map(|side| pair.sides[side].covers[first / 16]);
-    let counted = |cover: Cover| pair.due_from.map_or(cover.name(), |offset| cover.counted_from(offset));
+    let counted = |cover: Cover| if pair.due_from.is_some() { cover.counted() } else { cover.name() };
     let due_there = if due.name() == "none" { "no mask is due".to_string() } else { format!("{} is due", counted(due)) };
     let by_masks = pair.kind(first) == Kind::ByMasks;
     match found.name().as_str() {
@@ -89,24 +89,24 @@ fn against(pair: &Pair, first: usize) -> Vec<String> {
     }
 }
 
-/// As (o = 3: Mask(7), Mask(6)).
+/// As (o = 3: Mask(7), Mask(6)). At sixteen offsets the table counts from these itself.
 fn labels(pair: &Pair, covers: &[Cover]) -> String {
     let names: Vec<String> = covers.iter().map(|cover| cover.name()).filter(|name| name != "none").collect();
-    match pair.due_from {
-        Some(offset) if !names.is_empty() => format!(" (o = {}: {})", offset.number(), names.join(", ")),
+    match pair.due_from.and_then(Start::one) {
+        Some(offset) if !names.is_empty() => format!(" (o = {offset}: {})", names.join(", ")),
         _ => String::new(),
     }
 }
 
-/// Where a dump has the masks of one other offset from its first state on, or is read as if it had.
-fn other_offset(pair: &Pair) -> Option<String> {
-    if let Some(offset) = pair.read_at {
-        let said = "what differs under the masks is what differs from the run at that offset";
-        return Some(format!("Read at offset {}: {said}.", offset.number()));
+/// Where a dump has the masks of one other start from its first state on, or is read as if it had.
+fn other_start(pair: &Pair) -> Option<String> {
+    if let Some(start) = pair.read_at {
+        let there = if start.one().is_some() { "that offset" } else { "those offsets" };
+        return Some(format!("Read at {start}: what differs under the masks is what differs from the run at {there}."));
     }
     let covers = &pair.sides[1].covers;
-    let (_, offset, step) = covers[0].0.filter(|(_, offset, _)| pair.is_dump && pair.due_from != Some(*offset))?;
+    let (_, start, step) = covers[0].0.filter(|(_, start, _)| pair.is_dump && pair.due_from != Some(*start))?;
     let mut covered = pair.points().filter(|point| point.stage() != Stage::Uncovering);
-    let throughout = covered.all(|point| covers[point.number()] == Cover(Some((point, offset, step))));
-    throughout.then(|| format!("All of its masks are those of offset {}.", offset.number()))
+    let throughout = covered.all(|point| covers[point.number()] == Cover(Some((point, start, step))));
+    throughout.then(|| format!("All of its masks are those of {start}."))
 }

@@ -134,7 +134,8 @@ fn options_have_the_usual_ways_to_be_written() {
         (format!("record --decrypt=yes {KEY} {BLOCK}"), "--decrypt takes no value; slipgrease record --help says more"),
         (
             format!("mask --offset= {KEY} {BLOCK}"),
-            "--offset '': a decimal number from 0 to 15 is expected; slipgrease mask --help says more",
+            "--offset '': a decimal number from 0 to 15 is expected, or sixteen with commas between them; slipgrease mask --help \
+             says more",
         ),
         (format!("mask --offsets=3 {KEY} {BLOCK}"), "no option --offsets here; slipgrease mask --help says more"),
         (format!("encrypt --key={KEY} {BLOCK}"), "no option --key here; slipgrease encrypt --help says more"),
@@ -177,8 +178,8 @@ fn numbers_are_decimal_and_told_as_they_were_typed() {
         ("blocks --offsets 3,,4", format!("--offsets, for block 2: '': {decimal}")),
         ("blocks --offsets 3,-1", format!("--offsets, for block 2: -1: {decimal}")),
         (
-            "mask --offset +3",
-            "--offset +3: a decimal number from 0 to 15 is expected; slipgrease mask --help says more".to_string(),
+            "wrap --offset +3",
+            "--offset +3: a decimal number from 0 to 15 is expected; slipgrease wrap --help says more".to_string(),
         ),
         (
             "mask --offset 1 --step 0x5",
@@ -200,6 +201,7 @@ fn no_key_and_no_escape_code_is_repeated() {
         format!("{NIST_KEY} {BLOCK}"),
         format!("help {NIST_KEY}"),
         format!("mask --offset {NIST_KEY} {KEY} {BLOCK}"),
+        format!("mask --offset 3,{NIST_KEY},5 {KEY} {BLOCK}"),
         format!("mask --offset 1 --step {NIST_KEY} {KEY} {BLOCK}"),
         format!("blocks --offsets {NIST_KEY} {KEY} {BLOCK}"),
         format!("encrypt --{NIST_KEY} {BLOCK}"),

@@ -1,6 +1,6 @@
 //! Random bytes, and words that nearly make sense, wherever a command takes any.
 
-use super::{help, run, stream, vectors, Folder, BLOCK, COMMANDS, KEY, PUBLISHED};
+use super::{help, offsets::SIXTEEN, run, stream, vectors, Folder, BLOCK, COMMANDS, KEY, PUBLISHED};
 use numbers::Random;
 use std::ffi::OsString;
 use std::os::unix::ffi::OsStringExt;
@@ -48,7 +48,7 @@ impl Source<'_> {
             3 => stream::example(),
             4 => format!("{BLOCK} {}\n", self.random.below(18)).repeat(3).into_bytes(),
             _ => (0..self.random.below(5))
-                .map(|_| format!("{} ", self.of(&[KEY, BLOCK, "3", "0,15", "read"])))
+                .map(|_| format!("{} ", self.of(&[KEY, BLOCK, "3", "0,15", SIXTEEN, "read"])))
                 .collect::<String>()
                 .into(),
         };
@@ -72,7 +72,7 @@ impl Source<'_> {
             "--svg" | "--key-file" | "--pipes" | "--against" => self.path(),
             _ => match self.random.below(4) {
                 0 => self.word(),
-                _ => self.of(&["3", "15", "16", "5", "0,15", "-", BLOCK, KEY, PUBLISHED]).into(),
+                _ => self.of(&["3", "15", "16", "5", "0,15", SIXTEEN, "-", BLOCK, KEY, PUBLISHED]).into(),
             },
         };
         match self.random.below(2) {

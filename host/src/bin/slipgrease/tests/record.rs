@@ -4,6 +4,7 @@ mod against;
 mod files;
 mod json;
 mod picture;
+mod sixteen;
 
 use super::{printed, refused, typed, BLOCK, CIPHERTEXT, KEY, PUBLISHED};
 use crate::hex;

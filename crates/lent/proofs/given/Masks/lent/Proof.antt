@@ -8,9 +8,8 @@ use Rattle.lent.proofs.given.Masks.lent.Tie as tie
 
 returns : tie.Need-returns
 returns c =
-    let block = c .before in
-    let start = block .before .before in
-    (block .sixteen .ensures ∙ all-sixteen (start .args .masks .now) (start .pre), refl, c .twice .ensures)
+    let start = c .before .before .before in
+    (c .sixteen .ensures ∙ all-sixteen (start .args .masks .now) (start .pre), refl, refl, refl)
 
 pub lent-spec : {M : Type 1} → statement M
-lent-spec = tie.close (tie.spec (λ c κs. search needs) (λ c κs. search needs) returns)
+lent-spec = tie.close (tie.spec (λ c κs. search needs) returns)

@@ -1,7 +1,7 @@
 -- The checks in their order.
 -- Assumes nothing.
 use borrow.Author.Needs.{needs}
-use borrow.Author.Tests.{eq-eqb, ne-eqb, le-leb, lt-leb}
+use borrow.Author.Tests.{eq-eqb, ne-eqb}
 use Rattle.masked.proofs.calls.checked.refusal.Statement.{statement}
 use Rattle.masked.proofs.calls.checked.refusal.Tie as tie
 
@@ -27,15 +27,15 @@ returns-5 c =
     let masks = c .before in
     let output = masks .before in
     let input = output .before in
-    simp (eq-eqb _ 240 (input .before .if1 .left), eq-eqb _ 16 (input .if2 .left), eq-eqb _ 16 (output .if3 .left), eq-eqb _ 16 (masks .if4 .left), lt-leb _ 15 (c .if5 .taken))
+    simp (eq-eqb _ 240 (input .before .if1 .left), eq-eqb _ 16 (input .if2 .left), eq-eqb _ 16 (output .if3 .left), eq-eqb _ 16 (masks .if4 .left), ne-eqb _ 16 (c .if5 .taken))
 
 returns-6 : tie.Need-returns-6
 returns-6 c =
-    let offset = c .before in
-    let masks = offset .before in
+    let offsets = c .before in
+    let masks = offsets .before in
     let output = masks .before in
     let input = output .before in
-    simp (eq-eqb _ 240 (input .before .if1 .left), eq-eqb _ 16 (input .if2 .left), eq-eqb _ 16 (output .if3 .left), eq-eqb _ 16 (masks .if4 .left), le-leb _ 15 (offset .if5 .left)) (c .refusal .ensures)
+    simp (eq-eqb _ 240 (input .before .if1 .left), eq-eqb _ 16 (input .if2 .left), eq-eqb _ 16 (output .if3 .left), eq-eqb _ 16 (masks .if4 .left), eq-eqb _ 16 (offsets .if5 .left)) (c .offsets-refusal .ensures)
 
 pub refusal-spec : {M : Type 1} → statement M
 refusal-spec = tie.close (tie.spec returns returns-2 returns-3 returns-4 returns-5 (λ c κs. search needs) returns-6)

@@ -1,57 +1,41 @@
--- The checks, and then the run over boxes and constants that were worked out for the masks.
+-- The checks, and then the run.
 -- Assumes nothing.
-use mathlib.Core.List.{[]}
-use mathlib.Core.Path.{_∙_}
+use mathlib.Core.List.{List, []}
+use Prim.Native.Nat.{ℕ}
 use borrow.Author.Needs.{needs}
-use lib.Dec.{lit<}
-use Rattle.aes.proofs.Replies.{telling, refused, passed}
+use Rattle.aes.proofs.Replies.{refused}
 use Rattle.runs.specs.Back.{maskedInvCipher}
 use Rattle.masked.specs.Calls.{backChecks}
-use Rattle.masked.proofs.Checked.{sizes}
+use Rattle.masked.proofs.Checked.{sizes, block-lent, block-answer}
 use Rattle.masked.proofs.calls.decrypt.decrypt_masked.Statement.{statement}
 use Rattle.masked.proofs.calls.decrypt.decrypt_masked.Tie as tie
 
 returns : tie.Need-returns
 returns c =
     let told = c .before in
-    let a = told .before .before .before .before .before .before .args in
-    refused (a .output .now) _ [] (backChecks (a .schedule .now) (a .input .now) (a .output .now) (a .masks .now) (a .offset) (a .step)) (told .refusal .ensures) (c .if1 .taken)
+    let a = told .before .before .before .before .before .before .before .args in
+    refused (a .output .now) _ [] (backChecks (a .schedule .now) (a .input .now) (a .output .now) (a .masks .now) (a .offsets .now) (a .step)) (told .refusal .ensures) (c .if1 .taken)
 
-masks-lent : tie.Need-lent-requires
-masks-lent c κs =
-    let a = c .before .before .before .before .before .before .before .args in
-    sizes (a .schedule .now) (a .input .now) (a .output .now) (a .masks .now) (a .offset) (a .step) 0 (c .before .refusal .ensures) (c .if1 .left) .masks
+offsets-lent : tie.Need-lent-requires
+offsets-lent c κs =
+    let a = c .before .before .before .before .before .before .before .before .args in
+    sizes (a .schedule .now) (a .input .now) (a .output .now) (a .masks .now) (a .offsets .now) (a .step) 0 (c .before .refusal .ensures) (c .if1 .left) .offsets .sixteen
 
-block-lent : tie.Need-lent-requires-2
-block-lent c κs =
-    let passed-on = c .before .before .before .before .before .before .before in
-    let a = passed-on .before .before .before .before .before .before .before .args in
-    sizes (a .schedule .now) (a .input .now) (a .output .now) (a .masks .now) (a .offset) (a .step) 0 (passed-on .before .refusal .ensures) (passed-on .if1 .left) .input
-
-lent : tie.Need-opened-requires
+lent : tie.Need-decrypted-requires
 lent c κs =
-    let columns = c .before .before .before .before .before in
-    let rows = columns .before .before in
-    let boxes = rows .before .before in
-    let masks = boxes .before .before in
-    let passed-on = masks .before in
-    let a = passed-on .before .before .before .before .before .before .before .args in
-    let s = sizes (a .schedule .now) (a .input .now) (a .output .now) (a .masks .now) (a .offset) (a .step) 0 (passed-on .before .refusal .ensures) (passed-on .if1 .left) in
-    (lit< tt, lit< tt, s .schedule, boxes .inverse-boxes .ensures, rows .constants .ensures, columns .constants2 .ensures, s .output, masks .lent .ensures .2)
+    let start = c .before in
+    let passed-on = start .before in
+    let a = passed-on .before .before .before .before .before .before .before .before .args in
+    block-lent (a .schedule .now) (a .input .now) (a .output .now) (a .masks .now) (a .offsets .now) (a .step) 0 (passed-on .before .refusal .ensures) (passed-on .if1 .left) (start .lent .result) (start .lent .ensures)
 
 returns-2 : tie.Need-returns-2
-unfolding telling
 returns-2 c =
     let run = c .before .before in
-    let block = run .before .before .before .before .before in
-    let table = block .before .before .before .before .before .before .before in
-    let passed-on = table .before in
+    let start = run .before .before in
+    let passed-on = start .before in
     let told = passed-on .before in
-    let a = told .before .before .before .before .before .before .args in
-    (λ i. (0, (run .opened .ensures ∙ λ j. maskedInvCipher 14 (table .lent .ensures .0 j) (a .offset) (table .lent .ensures .1 j) (a .schedule .now) (block .lent2 .ensures j)) i))
-    ∙ passed (a .output .now) _ [] (backChecks (a .schedule .now) (a .input .now) (a .output .now) (a .masks .now) (a .offset) (a .step)) tt (told .refusal .ensures) (passed-on .if1 .left)
+    let a = told .before .before .before .before .before .before .before .args in
+    block-answer (a .schedule .now) (a .input .now) (a .output .now) (a .masks .now) (a .offsets .now) (a .step) 0 (told .refusal .ensures) (passed-on .if1 .left) (start .lent .result) (start .lent .ensures) (λ (v : List ℕ). maskedInvCipher 14 (a .masks .now) v (a .step) (a .schedule .now) (a .input .now)) (run .decrypted .ensures)
 
 pub decrypt-masked-spec : {M : Type 1} → statement M
-decrypt-masked-spec =
-    tie.close
-    (tie.spec (λ c κs. search needs) (λ c. search needs) returns masks-lent (λ c κs. search needs) (λ c κs. search needs) (λ c κs. search needs) block-lent lent (λ c. search needs) returns-2)
+decrypt-masked-spec = tie.close (tie.spec (λ c κs. search needs) (λ c. search needs) returns offsets-lent lent (λ c. search needs) returns-2)

@@ -1,61 +1,42 @@
--- A refusal changes nothing; past it stand the states of the recorded decryption.
+-- The checks, and then the run.
 -- Assumes nothing.
-use mathlib.Core.List.{[]}
-use mathlib.Core.Path.{_∙_}
+use mathlib.Core.List.{List, []}
+use Prim.Native.Nat.{ℕ}
 use borrow.Author.Needs.{needs}
-use lib.Dec.{lit<}
 use Rattle.aes.specs.Record.{bytes}
-use Rattle.aes.proofs.Replies.{telling, refused, passed}
+use Rattle.aes.proofs.Replies.{refused}
 use Rattle.runs.specs.Back.{maskedBackRecord}
 use Rattle.masked.specs.Calls.{recordChecks}
-use Rattle.masked.proofs.Checked.{record-sizes}
+use Rattle.masked.proofs.Checked.{record-sizes, states-lent, states-answer}
 use Rattle.masked.proofs.calls.decrypt.record_masked_decryption.Statement.{statement}
 use Rattle.masked.proofs.calls.decrypt.record_masked_decryption.Tie as tie
 
 returns : tie.Need-returns
 returns c =
     let told = c .before in
-    let a = told .before .before .before .before .before .before .args in
-    refused (a .states .now) _ [] (recordChecks 1360 (a .schedule .now) (a .input .now) (a .masks .now) (a .offset) (a .step) (a .states .now)) (told .record-refusal .ensures) (c .if1 .taken)
+    let a = told .before .before .before .before .before .before .before .args in
+    refused (a .states .now) _ [] (recordChecks 1360 (a .schedule .now) (a .input .now) (a .masks .now) (a .offsets .now) (a .step) (a .states .now)) (told .record-refusal .ensures) (c .if1 .taken)
 
-masks-lent : tie.Need-lent-requires
-masks-lent c κs =
-    let told = c .before in
-    let a = told .before .before .before .before .before .before .args in
-    record-sizes 1360 (a .schedule .now) (a .input .now) (a .masks .now) (a .offset) (a .step) (a .states .now) (told .record-refusal .ensures) (c .if1 .left) .masks
+offsets-lent : tie.Need-lent-requires
+offsets-lent c κs =
+    let a = c .before .before .before .before .before .before .before .before .args in
+    record-sizes 1360 (a .schedule .now) (a .input .now) (a .masks .now) (a .offsets .now) (a .step) (a .states .now) (c .before .record-refusal .ensures) (c .if1 .left) .offsets .sixteen
 
-block-lent : tie.Need-lent-requires-2
-block-lent c κs =
-    let passed-on = c .before .before .before .before .before .before .before in
-    let told = passed-on .before in
-    let a = told .before .before .before .before .before .before .args in
-    record-sizes 1360 (a .schedule .now) (a .input .now) (a .masks .now) (a .offset) (a .step) (a .states .now) (told .record-refusal .ensures) (passed-on .if1 .left) .input
-
-lent : tie.Need-opened-recorded-requires
+lent : tie.Need-decryption-recorded-requires
 lent c κs =
-    let columns = c .before .before .before .before .before in
-    let rows = columns .before .before in
-    let boxes = rows .before .before in
-    let masks = boxes .before .before in
-    let passed-on = masks .before in
-    let told = passed-on .before in
-    let a = told .before .before .before .before .before .before .args in
-    let s = record-sizes 1360 (a .schedule .now) (a .input .now) (a .masks .now) (a .offset) (a .step) (a .states .now) (told .record-refusal .ensures) (passed-on .if1 .left) in
-    (lit< tt, lit< tt, s .schedule, boxes .inverse-boxes .ensures, rows .constants .ensures, columns .constants2 .ensures, s .room, masks .lent .ensures .2)
+    let start = c .before in
+    let passed-on = start .before in
+    let a = passed-on .before .before .before .before .before .before .before .before .args in
+    states-lent 1360 (a .schedule .now) (a .input .now) (a .masks .now) (a .offsets .now) (a .step) (a .states .now) (passed-on .before .record-refusal .ensures) (passed-on .if1 .left) (start .lent .result) (start .lent .ensures)
 
 returns-2 : tie.Need-returns-2
-unfolding telling
 returns-2 c =
     let run = c .before .before in
-    let block = run .before .before .before .before .before in
-    let table = block .before .before .before .before .before .before .before in
-    let passed-on = table .before in
+    let start = run .before .before in
+    let passed-on = start .before in
     let told = passed-on .before in
-    let a = told .before .before .before .before .before .before .args in
-    (λ i. (0, (run .opened-recorded .ensures ∙ λ j. bytes (maskedBackRecord 14 (table .lent .ensures .0 j) (a .offset) (table .lent .ensures .1 j) (a .schedule .now) (block .lent2 .ensures j))) i))
-    ∙ passed (a .states .now) _ [] (recordChecks 1360 (a .schedule .now) (a .input .now) (a .masks .now) (a .offset) (a .step) (a .states .now)) tt (told .record-refusal .ensures) (passed-on .if1 .left)
+    let a = told .before .before .before .before .before .before .before .args in
+    states-answer 1360 (a .schedule .now) (a .input .now) (a .masks .now) (a .offsets .now) (a .step) (a .states .now) (told .record-refusal .ensures) (passed-on .if1 .left) (start .lent .result) (start .lent .ensures) (λ (v : List ℕ). bytes (maskedBackRecord 14 (a .masks .now) v (a .step) (a .schedule .now) (a .input .now))) (run .decryption-recorded .ensures)
 
 pub record-masked-decryption-spec : {M : Type 1} → statement M
-record-masked-decryption-spec =
-    tie.close
-    (tie.spec (λ c κs. search needs) (λ c. search needs) returns masks-lent (λ c κs. search needs) (λ c κs. search needs) (λ c κs. search needs) block-lent lent (λ c. search needs) returns-2)
+record-masked-decryption-spec = tie.close (tie.spec (λ c κs. search needs) (λ c. search needs) returns offsets-lent lent (λ c. search needs) returns-2)

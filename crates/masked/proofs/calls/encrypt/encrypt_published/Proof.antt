@@ -1,14 +1,14 @@
--- The checks, and then the run over the stored boxes and constants.
+-- The checks, and then the run.
 -- Assumes nothing.
 use mathlib.Core.List.{List, []}
-use mathlib.Core.Path.{_≡_, sym, ap, _∙_}
+use mathlib.Core.Path.{_≡_, ap, _∙_}
 use Prim.Native.Nat.{ℕ}
 use borrow.Author.Needs.{needs}
-use Rattle.aes.specs.Box.{sBox}
 use Rattle.aes.specs.Reply.{Check, refusal}
 use Rattle.aes.proofs.Replies.{telling, refused, passed}
-use Rattle.masks.specs.Mask.{published, maskedBoxes, compensation, constants}
+use Rattle.masks.specs.Mask.{published}
 use Rattle.runs.specs.Run.{maskedCipher}
+use Rattle.lent.proofs.Begun.{begun-lent, record-lent}
 use Rattle.masked.specs.Calls.{publishedChecks}
 use Rattle.masked.proofs.Checked.{published-refusal, sizes}
 use Rattle.masked.proofs.calls.encrypt.encrypt_published.Statement.{statement}
@@ -17,50 +17,37 @@ use Rattle.masked.proofs.calls.encrypt.encrypt_published.Tie as tie
 returns : tie.Need-returns
 returns c =
     let told = c .before in
-    let a = told .before .before .before .before .before .args in
-    let cs : List Check = publishedChecks (a .schedule .now) (a .input .now) (a .output .now) (a .offset) (a .step) (a .form) in
-    let reply : told .refusal .result ≡ refusal cs = told .refusal .ensures ∙ published-refusal (a .schedule .now) (a .input .now) (a .output .now) (a .offset) (a .step) (a .form) in
-    refused (a .output .now) _ [] cs reply (c .if1 .taken)
+    let a = told .before .before .before .before .before .before .args in
+    let cs : List Check = publishedChecks (a .schedule .now) (a .input .now) (a .output .now) (a .offsets .now) (a .step) (a .form) in
+    refused (a .output .now) _ [] cs (told .refusal .ensures ∙ published-refusal (a .schedule .now) (a .input .now) (a .output .now) (a .offsets .now) (a .step) (a .form)) (c .if1 .taken)
 
-block-lent : tie.Need-lent-requires
-block-lent c κs =
-    let passed-on = c .before .before .before .before .before in
-    let a = passed-on .before .before .before .before .before .before .args in
-    sizes (a .schedule .now) (a .input .now) (a .output .now) (a .input .now) (a .offset) (a .step) (a .form) (passed-on .before .refusal .ensures) (passed-on .if1 .left) .input
+offsets-lent : tie.Need-lent-requires
+offsets-lent c κs =
+    let a = c .before .before .before .before .before .before .before .args in
+    sizes (a .schedule .now) (a .input .now) (a .output .now) (a .input .now) (a .offsets .now) (a .step) (a .form) (c .before .refusal .ensures) (c .if1 .left) .offsets .sixteen
 
--- what is stored is of the published masks, which are the ones at hand
-stepped-lent : tie.Need-stepped-requires
-stepped-lent c κs =
-    let boxes = c .before in
-    boxes .boxes .ensures ∙ ap (λ (M : List ℕ). maskedBoxes sBox M 1) (sym (boxes .before .published .ensures .0))
-
-lent : tie.Need-unrecorded-requires
+lent : tie.Need-sealed-requires
 lent c κs =
-    let stored = c .before .before .before .before in
-    let boxes = stored .before in
-    let masks = boxes .before .before .before in
-    let passed-on = masks .before in
-    let a = passed-on .before .before .before .before .before .before .args in
-    let s = sizes (a .schedule .now) (a .input .now) (a .output .now) (a .input .now) (a .offset) (a .step) (a .form) (passed-on .before .refusal .ensures) (passed-on .if1 .left) in (
-      s .schedule,
-      boxes .stepped .ensures,
-      stored .compensations .ensures ∙ ap (constants compensation) (sym (masks .published .ensures .0)),
-      s .output,
-      masks .published .ensures .2,
-    )
+    let start = c .before in
+    let passed-on = start .before in
+    let a = passed-on .before .before .before .before .before .before .before .args in
+    let s = sizes (a .schedule .now) (a .input .now) (a .output .now) (a .input .now) (a .offsets .now) (a .step) (a .form) (passed-on .before .refusal .ensures) (passed-on .if1 .left) in
+    (s .schedule, s .input, s .output, begun-lent (start .lent .result) (a .offsets .now) (start .lent .ensures))
 
 returns-2 : tie.Need-returns-2
 unfolding telling
 returns-2 c =
     let run = c .before .before in
-    let block = run .before .before .before .before in
-    let masks = block .before .before .before .before .before in
-    let told = masks .before .before in
-    let a = told .before .before .before .before .before .args in
-    let cs : List Check = publishedChecks (a .schedule .now) (a .input .now) (a .output .now) (a .offset) (a .step) (a .form) in
-    let reply : told .refusal .result ≡ refusal cs = told .refusal .ensures ∙ published-refusal (a .schedule .now) (a .input .now) (a .output .now) (a .offset) (a .step) (a .form) in
-    (λ i. (0, (run .unrecorded .ensures ∙ λ j. maskedCipher 14 (masks .published .ensures .0 j) (a .offset) (masks .published .ensures .1 j) (a .schedule .now) (block .lent .ensures j)) i))
-    ∙ passed (a .output .now) _ [] cs tt reply (masks .before .if1 .left)
+    let start = run .before .before in
+    let passed-on = start .before in
+    let told = passed-on .before in
+    let a = told .before .before .before .before .before .before .args in
+    let cs : List Check = publishedChecks (a .schedule .now) (a .input .now) (a .output .now) (a .offsets .now) (a .step) (a .form) in
+    let reply : told .refusal .result ≡ refusal cs = told .refusal .ensures ∙ published-refusal (a .schedule .now) (a .input .now) (a .output .now) (a .offsets .now) (a .step) (a .form) in
+    let s = sizes (a .schedule .now) (a .input .now) (a .output .now) (a .input .now) (a .offsets .now) (a .step) (a .form) (told .refusal .ensures) (passed-on .if1 .left) in
+    let v-is = record-lent (start .lent .result) (a .offsets .now) (start .lent .ensures) (s .offsets) in
+    (λ i. (0, (run .sealed .ensures ∙ ap (λ (v : List ℕ). maskedCipher 14 published v (a .step) (a .schedule .now) (a .input .now)) v-is) i))
+    ∙ passed (a .output .now) _ [] cs tt reply (passed-on .if1 .left)
 
 pub encrypt-published-spec : {M : Type 1} → statement M
-encrypt-published-spec = tie.close (tie.spec (λ c κs. search needs) (λ c. search needs) returns (λ c κs. search needs) (λ c κs. search needs) stepped-lent (λ c κs. search needs) block-lent lent (λ c. search needs) returns-2)
+encrypt-published-spec = tie.close (tie.spec (λ c κs. search needs) (λ c. search needs) returns offsets-lent lent (λ c. search needs) returns-2)

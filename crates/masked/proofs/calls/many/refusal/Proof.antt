@@ -35,7 +35,7 @@ returns-6 c =
     let output = offsets .before in
     let few = output .before in
     let whole = few .before in
-    simp (eq-eqb _ 240 (whole .before .if1 .left), eq-eqb _ 0 (whole .if2 .left), le-leb _ 4096 (few .if3 .left), eq-eqb _ _ (output .if4 .left), eq-eqb _ _ (offsets .if5 .left)) (c .later-refusal .ensures)
+    simp (eq-eqb _ 240 (whole .before .if1 .left), eq-eqb _ 0 (whole .if2 .left), le-leb _ 4096 (few .if3 .left), eq-eqb _ _ (output .if4 .left), eq-eqb _ _ (offsets .if5 .left)) (c .offsets-refusal .ensures)
 
 pub refusal-spec : {M : Type 1} → statement M
 refusal-spec = tie.close (tie.spec returns returns-2 returns-3 returns-4 returns-5 (λ c κs. search needs) returns-6)

@@ -8,11 +8,11 @@ use std::io::{self, BufReader};
 use std::sync::atomic::{AtomicUsize, Ordering};
 
 /// The covered states of a run.
-fn dumped(options: &str, block: &str) -> Vec<u8> {
+pub fn dumped(options: &str, block: &str) -> Vec<u8> {
     dumped_with(KEY, options, block)
 }
 
-fn dumped_with(key: &str, options: &str, block: &str) -> Vec<u8> {
+pub fn dumped_with(key: &str, options: &str, block: &str) -> Vec<u8> {
     column(&printed(&format!("record {options} {key} {block}")), 2)
 }
 
@@ -23,14 +23,14 @@ fn mask(label: usize) -> Vec<u8> {
 }
 
 /// Xors a state with masks.
-fn recover(dump: &mut [u8], state: usize, masks: &[Vec<u8>]) {
+pub fn recover(dump: &mut [u8], state: usize, masks: &[Vec<u8>]) {
     for mask in masks {
         dump[16 * state..][..16].iter_mut().zip(mask).for_each(|(byte, mask)| *byte ^= mask);
     }
 }
 
 /// What is told of a dump, in its bytes and in lines of hex.
-fn compared(options: &str, block: &str, dump: &[u8]) -> Vec<String> {
+pub fn compared(options: &str, block: &str, dump: &[u8]) -> Vec<String> {
     // Tests that run at the same time have folders of their own.
     static FOLDERS: AtomicUsize = AtomicUsize::new(0);
     let folder = Folder::new(&format!("dump-{}", FOLDERS.fetch_add(1, Ordering::Relaxed)));

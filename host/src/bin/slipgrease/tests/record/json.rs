@@ -1,6 +1,6 @@
 //! Records as JSON, read here by a reader of its own.
 
-use super::super::{printed, typed, BLOCK, CIPHERTEXT, KEY, PUBLISHED};
+use super::super::{offsets::SIXTEEN, printed, typed, BLOCK, CIPHERTEXT, KEY, PUBLISHED};
 use super::{differing, OTHER_KEY};
 use std::collections::BTreeMap;
 
@@ -132,6 +132,26 @@ fn two_runs_have_their_difference() {
     }
     let same = read(&printed(&format!("record --json --key2 {KEY} {KEY} {BLOCK}")));
     assert_eq!((same.at("difference.bytes"), same.at("difference.first")), (&Number(0), &Null));
+}
+
+/// In place of one offset, and where one stands for them there is that.
+#[test]
+fn sixteen_offsets_are_a_list() {
+    let list = |offsets: &str| List(offsets.split(',').map(|offset| Number(offset.parse().unwrap())).collect());
+    let json = read(&differing(&format!("record --json --offset {SIXTEEN} --offset2 7 {KEY} {BLOCK}")));
+    assert_eq!((json.at("run.offsets"), json.at("second.offset")), (&list(SIXTEEN), &Number(7)));
+    assert_eq!(json.at("another"), &List(vec![text("offset")]));
+    assert_eq!(json.at("run.states.2.mask_name"), &text("Mask(o+1)"));
+    assert_eq!(json.at("difference.first.mask_names"), &List(vec![text("Mask(o)"), text("Mask(7)")]));
+    for (run, missing) in [("run", "offset"), ("second", "offsets")] {
+        match json.at(run) {
+            Object(parts) => assert!(!parts.contains_key(missing), "{run}"),
+            other => panic!("{other:?}"),
+        }
+    }
+    let second = read(&differing(&format!("record --json --offset2 {SIXTEEN} {KEY} {BLOCK}")));
+    assert_eq!((second.at("run.offset"), second.at("second.offsets")), (&Null, &list(SIXTEEN)));
+    assert_eq!(second.at("second.states.0.mask_name"), &text("Mask(o2)"));
 }
 
 /// A dump with another key and at another offset differs in what two such runs differ in.

@@ -12,8 +12,8 @@ use Rattle.aes.specs.Byte.{below}
 use Rattle.aes.specs.State.{at}
 use Rattle.aes.proofs.Below.{below-more, below-not}
 use Rattle.masks.proofs.Row.{ended}
-use Rattle.masked.proofs.calls.many.later_refusal.Statement.{statement}
-use Rattle.masked.proofs.calls.many.later_refusal.Tie as tie
+use Rattle.masked.proofs.calls.chosen.offsets_refusal.Statement.{statement}
+use Rattle.masked.proofs.calls.chosen.offsets_refusal.Tie as tie
 
 abbrev Inv-loop : tie.InvT-loop
 Inv-loop offsets step form k₀ k = (k ≤ length offsets) × (below k (λ j. leb (at offsets j) 15) ≡ true)
@@ -48,7 +48,7 @@ returns-2 c =
     let a = loop .before .before .args in
     simp (passed-all (a .offsets .now) (loop .loop .k) (loop .loop .inv .0) (left .loop-test .left) (loop .loop .inv .1)) (c .refusal .ensures)
 
-pub later-refusal-spec : {M : Type 1} → statement M
-later-refusal-spec =
+pub offsets-refusal-spec : {M : Type 1} → statement M
+offsets-refusal-spec =
     tie.close
     (tie.spec Inv-loop μ-loop begin (λ c. search needs) returns (λ c. search needs) (λ c. search needs) again (λ c κs. search needs) returns-2)

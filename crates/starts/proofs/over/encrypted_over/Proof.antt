@@ -1,0 +1,44 @@
+-- The run over what the start left as it is, or what was worked out for it.
+-- Assumes nothing.
+use mathlib.Core.List.{List}
+use mathlib.Core.Path.{_∙_}
+use Prim.Native.Nat.{ℕ}
+use borrow.Author.Needs.{needs}
+use Rattle.runs.specs.Run.{maskedCipher}
+use Rattle.lent.proofs.Begun.{sound, as-told}
+use Rattle.starts.proofs.over.encrypted_over.Statement.{statement}
+use Rattle.starts.proofs.over.encrypted_over.Tie as tie
+
+laid-lent : tie.Need-laid-requires
+laid-lent c κs =
+    let places = c .before .before in
+    let start = places .before .before .before .before in
+    let a = start .args in
+    (sound (a .masks) (a .start) (start .pre .4) (start .pre .3), places .first-places .ensures, start .pre .6)
+
+made-lent : tie.Need-compensated-requires
+made-lent c κs =
+    let laid = c .before .before in
+    let start = laid .before .before .before .before .before .before .before in
+    let a = start .args in
+    (sound (a .masks) (a .start) (start .pre .4) (start .pre .3), laid .laid .ensures .1, start .pre .7)
+
+lent : tie.Need-unrecorded-requires
+lent c κs =
+    let first = c .before in
+    let made = first .before .before .before .before .before in
+    let laid = made .before .before .before in
+    let start = laid .before .before .before .before .before .before .before in
+    (start .pre .0, start .pre .5, made .compensated .ensures, start .pre .2, rw (first .first .ensures) (start .pre .3 .0), laid .laid .ensures .0, laid .laid .ensures .1)
+
+returns : tie.Need-returns
+returns c =
+    let run = c .before .before in
+    let first = run .before .before in
+    let block = first .before .before .before .before in
+    let start = block .before .before .before .before .before .before .before .before .before .before .before in
+    let a = start .args in
+    run .unrecorded .ensures ∙ as-told (a .masks) (a .start) (start .pre .4) (λ (v b : List ℕ). maskedCipher 14 (a .masks .0) v (a .masks .1) (a .schedule .now) b) (first .first .ensures) (block .lent .ensures)
+
+pub encrypted-over-spec : {M : Type 1} → statement M
+encrypted-over-spec = tie.close (tie.spec (λ c κs. search needs) laid-lent made-lent (λ c κs. search needs) (λ c κs. search needs) lent (λ c. search needs) returns)
