@@ -1,5 +1,5 @@
-// What a masked call is lent, each a type: the block, and the masks. To make one a caller shows itself, which the calls alone can do; a
-// run has none but those that it is given, and is told nothing of them but what is made here.
+// What a masked call is lent, each a type: the block, where labels begin, and the masks. To make one a caller shows itself, which the calls
+// and what begins their runs alone can do; a run has those that it is given, and is told nothing of them except what is made here.
 ghost use mathlib.Core.Path.{_≡_};
 ghost use mathlib.Core.Bool.{true, cond};
 ghost use Prim.Native.Nat.{_+_, _%_, _<_};

@@ -1,6 +1,6 @@
 // A state position, a label, and the offsets of sixteen bytes. Each is a type whose number this file alone reads and makes, so that one
-// given for another does not compile. A label is counted modulo 16; none of these asks anything of its caller, and where a number is
-// below 16 already its remainder costs nothing.
+// given for another does not compile. A label is counted modulo 16, and what other crates call asks nothing of its caller; where a number
+// is below 16 already its remainder costs nothing.
 ghost use mathlib.Core.Path.{_≡_};
 ghost use mathlib.Core.List.{List};
 ghost use Prim.Native.Nat.{ℕ, _+_, _*_, _%_, _<_};
