@@ -1,5 +1,5 @@
 # What each command does stands behind ## in its line, where make help reads it. Without a name make does what make run does.
-.PHONY: run test help deps lib install uninstall clean worked bench bench-deps peers peers-deps soak
+.PHONY: run test help deps lib install uninstall clean worked report bench bench-deps peers peers-deps soak
 
 PREFIX = /usr/local
 
@@ -37,7 +37,7 @@ lib: ## proves the library and leaves it in build/libslipgrease.a
 	@tools/kit >&2
 	@tools/lib && echo build/libslipgrease.a
 
-install: ## installs library, header, desk tool, manual pages and completion under PREFIX, /usr/local unless named; DESTDIR too
+install: ## installs library, header, both programs, manual pages and completion under PREFIX, /usr/local unless named; DESTDIR too
 	@tools/kit >&2
 	@tools/put '$(PREFIX)' '$(DESTDIR)'
 
@@ -50,6 +50,10 @@ clean: ## removes all that was proved and built
 worked: ## shows worked examples of the field and the rack's rounds, by a proved program
 	@tools/kit >&2
 	@tools/worked
+
+report: ## proves the program that reports on the masks of a sheet, before it is shipped, and leaves it in build/report
+	@tools/kit >&2
+	@tools/report && echo build/report
 
 bench: ## measures the library beside C translations of its steps, other libraries and the desk tool
 	@tools/kit >&2

@@ -493,9 +493,26 @@ uint8_t slipgrease_descramble(
  * sixteen masks, otherwise value 0. Answers reply * 256 + value; with a refusal the value is 0.
  * Reads masks, 16 bytes.
  * Refusals: 5 MASKS_LENGTH.
- * Stack: 800 bytes.
+ * Stack: 72 bytes.
  */
 uint16_t slipgrease_fitness(const uint8_t *masks, size_t masks_len) SLIPGREASE_CHECKED;
+
+/*
+ * Counts for the report of a mask table: at how many of the sixteen offsets three bits of the mask over a byte show a pattern. Rows 1
+ * to 7 are the covered block, and the state after a key, boxes, ShiftRows, MixColumns, compensation and the last key; the count is
+ * the same in any round, and with any step. The bits rise, low < middle < high, where 0 is the lowest of a byte and 7 the highest;
+ * a pattern is 0 to 7, with the bit that is named high as its highest. Of a fit table each count is 2, except in row 5. There is no
+ * row above 7 and no byte above 15, and no pattern above 7: what is asked for beside these is shown at no offset, so the count is 0.
+ * Answers reply * 256 + count; with a refusal the count is 0.
+ * Reads masks, 16 bytes.
+ * Refusals: 5 MASKS_LENGTH.
+ * Stack: 120 bytes.
+ */
+uint16_t slipgrease_mask_count(
+    const uint8_t *masks, size_t masks_len,
+    uint8_t row, uint8_t byte,
+    uint8_t low, uint8_t middle, uint8_t high,
+    uint8_t pattern) SLIPGREASE_CHECKED;
 
 /*
  * Converts what an early module stored in form 1, with the published masks and step 1: xors it with Mask(o+14), which gives the

@@ -89,6 +89,9 @@ calls! {
     slipgrease_read_sheet as read_sheet(sheet: &[u8], masks: &mut [u8]) -> u16;
     slipgrease_write_sheet as write_sheet(masks: &[u8], step: u8, sheet: &mut [u8]) -> u8;
     slipgrease_fitness as fitness(masks: &[u8]) -> u16;
+    slipgrease_mask_count as mask_count(
+        masks: &[u8], row: u8, byte: u8, low: u8, middle: u8, high: u8, pattern: u8
+    ) -> u16;
     slipgrease_convert as convert(input: &[u8], output: &mut [u8], offset: u8) -> u8;
     slipgrease_wrap as wrap(schedule: &[u8], key_data: &[u8], wrapped: &mut [u8]) -> u8;
     slipgrease_unwrap as unwrap(schedule: &[u8], wrapped: &[u8], key_data: &mut [u8]) -> u8;

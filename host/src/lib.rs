@@ -32,6 +32,9 @@
 //! [`Pipes`] scrambles and descrambles transport packets of 188 bytes for seven pipes, one by one, or as a stream that comes in
 //! pieces of any length: [`Stream`] gives each packet to a function, and [`PacketWriter`] writes them.
 //!
+//! [`Masks::report`] counts how evenly masks show, before their sheet is shipped: a [`Report`] has a line for each row of the mask
+//! table, byte and triple of bits.
+//!
 //! What is proved is the code behind the C names. This crate adds no cipher of its own: a file of declarations, `calls.rs`, which
 //! alone has `unsafe`, and types around it. No claim is made about power or time; the code is not constant-time: boxes are read at
 //! places that depend on the covered state. No offset is drawn here: every one comes from the caller.
@@ -49,6 +52,7 @@ mod offsets;
 mod packets;
 mod record;
 mod refusal;
+mod report;
 mod schedule;
 mod slices;
 mod text;
@@ -60,10 +64,11 @@ pub use crate::offsets::Offsets;
 pub use crate::packets::{Packet, PacketWriter, Parity, Pipe, Pipes, RefusedPacket, Stream, Way};
 pub use crate::record::{Direction, Point, Record, Stage};
 pub use crate::refusal::{sort_reply, Fault, Refusal, UnknownReply};
+pub use crate::report::{Line, Report, Row, Summary};
 pub use crate::schedule::{Block, Schedule};
 pub use crate::slices::{
     convert, decrypt, decrypt_masked, decrypt_published, descramble, encrypt, encrypt_blocks, encrypt_masked, encrypt_published,
-    expand_key, fitness, inverse, logarithm, masked_inverse, multiply, power, read_sheet, record_masked,
+    expand_key, fitness, inverse, logarithm, mask_count, masked_inverse, multiply, power, read_sheet, record_masked,
     record_masked_decryption, record_plain, scramble, unwrap, unwrap_masked, wrap, wrap_masked, write_sheet,
 };
 pub use crate::text::ParseError;

@@ -1,6 +1,7 @@
 //! The sixteen masks, the offset at which a run begins with them, and the step by which it goes on.
 
 use crate::refusal::Refusal;
+use crate::report::Report;
 use crate::schedule::Block;
 use crate::slices;
 
@@ -64,6 +65,22 @@ impl Masks {
     #[must_use]
     pub fn are_fit(&self) -> bool {
         slices::fitness(&self.0).expect("the length is right")
+    }
+
+    /// How often each pattern of any three bits shows over the sixteen offsets, in every row of the mask table and over every byte.
+    ///
+    /// ```
+    /// use slipgrease::{Masks, Row};
+    ///
+    /// // Bit 0 of one mask is wrong: of the 56 triples those 35 are even that are without it.
+    /// let mut masks = *Masks::PUBLISHED.as_bytes();
+    /// masks[5] ^= 0x01;
+    /// let report = Masks::new(masks).report();
+    /// assert_eq!(report.even_in(Row::Block, 0), 35);
+    /// ```
+    #[must_use]
+    pub fn report(&self) -> Report {
+        Report::of(self)
     }
 
     /// The sixteen bytes.

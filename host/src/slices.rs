@@ -117,6 +117,24 @@ pub fn fitness(masks: &[u8]) -> Result<bool, Refusal> {
     valued(calls::fitness(masks)).map(|value| value == 1)
 }
 
+/// At how many of the sixteen offsets three bits of the mask over a byte show a pattern, in a row of the mask table: in any round, and
+/// with any step. Rows are 1 to 7: covered block, after a key, boxes, ShiftRows, MixColumns, compensation and the last key. The bits
+/// rise, 0 being the lowest of a byte; in the pattern, 0 to 7, the highest of the three is the highest. Of a row, byte, triple or
+/// pattern that there is not, the count is 0. [`Masks::report`](crate::Masks::report) has all of them.
+///
+/// Refused: masks not 16 bytes.
+///
+/// ```
+/// let published = slipgrease::Masks::PUBLISHED.as_bytes();
+/// assert_eq!(slipgrease::mask_count(published, 2, 0, [5, 6, 7], 0b111), Ok(2));
+/// assert_eq!(slipgrease::mask_count(published, 5, 0, [5, 6, 7], 0b111), Ok(3));
+/// assert_eq!(slipgrease::mask_count(published, 8, 0, [5, 6, 7], 0b111), Ok(0));
+/// ```
+pub fn mask_count(masks: &[u8], row: u8, byte: u8, bits: [u8; 3], pattern: u8) -> Result<u8, Refusal> {
+    let [low, middle, high] = bits;
+    valued(calls::mask_count(masks, row, byte, low, middle, high, pattern))
+}
+
 /// Writes the standard block of one that an early module stored in form 1, with the published masks and step 1: it takes off
 /// Mask(o+14), which was left on it at offset o. Of a standard block it writes the stored one, so that twice gives the input back.
 ///

@@ -122,11 +122,34 @@ static void sheets(void)
     PACKED(read_sheet, SLIPGREASE_REPLY_SHEET_LENGTH, 0, NONE, LENT(table));
 }
 
+/* Row, byte, three bits and a pattern of them. The published masks are fit, so that in all rows but 5 each pattern is shown twice; of
+   the rising ones eight are odd, which tells the lowest bit from the highest. */
+static void counts(void)
+{
+    uint8_t seventeen[SLIPGREASE_MASKS_BYTES + 1] = {0};
+    PACKED(mask_count, SLIPGREASE_REPLY_DONE, 2, LENT(masks), 2, 0, 5, 6, 7, 7);
+    PACKED(mask_count, SLIPGREASE_REPLY_DONE, 3, LENT(masks), 5, 0, 5, 6, 7, 7);
+    PACKED(mask_count, SLIPGREASE_REPLY_DONE, 2, LENT(masks), 7, 15, 0, 1, 2, 0);
+    PACKED(mask_count, SLIPGREASE_REPLY_DONE, 8, LENT(rising), 1, 9, 0, 4, 5, 1);
+    PACKED(mask_count, SLIPGREASE_REPLY_DONE, 0, LENT(rising), 1, 9, 0, 4, 5, 4);
+    PACKED(mask_count, SLIPGREASE_REPLY_DONE, 0, LENT(masks), 0, 0, 5, 6, 7, 7);
+    PACKED(mask_count, SLIPGREASE_REPLY_DONE, 0, LENT(masks), 8, 0, 5, 6, 7, 7);
+    PACKED(mask_count, SLIPGREASE_REPLY_DONE, 0, LENT(masks), 2, 16, 5, 6, 7, 7);
+    PACKED(mask_count, SLIPGREASE_REPLY_DONE, 0, LENT(masks), 2, 0, 5, 6, 8, 3);
+    PACKED(mask_count, SLIPGREASE_REPLY_DONE, 0, LENT(masks), 2, 0, 6, 6, 7, 7);
+    PACKED(mask_count, SLIPGREASE_REPLY_DONE, 0, LENT(masks), 2, 0, 7, 6, 5, 7);
+    PACKED(mask_count, SLIPGREASE_REPLY_DONE, 0, LENT(masks), 2, 0, 5, 6, 7, 8);
+    PACKED(mask_count, SLIPGREASE_REPLY_MASKS_LENGTH, 0, masks, 15, 2, 0, 5, 6, 7, 7);
+    PACKED(mask_count, SLIPGREASE_REPLY_MASKS_LENGTH, 0, LENT(seventeen), 2, 0, 5, 6, 7, 0);
+    PACKED(mask_count, SLIPGREASE_REPLY_MASKS_LENGTH, 0, NONE, 2, 0, 5, 6, 7, 7);
+}
+
 static void beside(void)
 {
     PACKED(fitness, SLIPGREASE_REPLY_DONE, 1, LENT(masks));
     PACKED(fitness, SLIPGREASE_REPLY_DONE, 0, LENT(rising));
     PACKED(fitness, SLIPGREASE_REPLY_MASKS_LENGTH, 0, NONE);
+    counts();
     CALL(multiply, 0xc1, 0x57, 0x83);
     CALL(inverse, 0xca, 0x53);
     PACKED(logarithm, SLIPGREASE_REPLY_DONE, 254, 0xf6);

@@ -49,6 +49,7 @@ static uint8_t packet[SLIPGREASE_PACKET_BYTES], scrambled[sizeof packet], copy[s
     X(scramble, , LENT(packet), LENT(scrambled), LENT(pipes), true) \
     X(descramble, , LENT(scrambled), LENT(copy), LENT(pipes)) \
     X(fitness, , LENT(masks)) \
+    X(mask_count, , LENT(masks), 5, 0, 5, 6, 7, 7) \
     X(convert, , LENT(block), LENT(output), 3) \
     X(multiply, , 0x57, 0x83) \
     X(inverse, , 0x53) \

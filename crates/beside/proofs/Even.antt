@@ -1,22 +1,19 @@
 -- Eight counts held in one word, a byte each: the word tells them all.
 -- Assumes nothing.
-use mathlib.Core.Path.{_≡_, refl, sym, _∙_}
+use mathlib.Core.Path.{_≡_, refl, sym, ap, _∙_}
 use mathlib.Core.Bool.{Bool, true, false, cond}
-use Prim.Native.Nat.{ℕ, zero, suc, _+_, _*_, _^_, _%_, _<_, _≤_}
-use native.Mathlib.Nat.{pow-suc}
+use mathlib.Core.List.{[], _∷_}
+use Prim.Native.Nat.{ℕ, zero, suc, _+_, _*_, _^_, _/_, _%_, _<_, _≤_}
+use native.Mathlib.Nat.{pow-suc, add-zero}
 use native.Mathlib.Numerals.{add-one}
 use native.Mathlib.Omega.{arith}
 use native.Mathlib.Decide.{ℕ-discrete}
 use lib.Dec.{T, eqb, eqb→eq}
 use borrow.Author.Tests.{eq-eqb, ne-eqb}
-use Rattle.aes.specs.Byte.{listed, below}
+use Rattle.aes.specs.Byte.{listed, below, table}
 use Rattle.aes.proofs.Below.{below-all, under}
 use Rattle.beside.specs.Fitness.{pattern, count, even}
-
--- n numbers of a byte each, the first one lowest
-unfoldable pub word : ℕ → (ℕ → ℕ) → ℕ
-word zero c = 0
-word (suc n) c = c 0 + 256 * word n (λ t. c (suc t))
+use Rattle.beside.specs.Counts.{word, counted, rest, apart}
 
 word-told : (n : ℕ) (c d : ℕ → ℕ) → ((t : ℕ) → c t < 256) → ((t : ℕ) → d t < 256) → word n c ≡ word n d → (t : ℕ) → t < n → c t ≡ d t
 unfolding word
@@ -64,11 +61,11 @@ ticked x y z v =
     let p : ℕ = pattern x y z v in
     eqb→eq (1 * 2 ^ (8 * p) % 2 ^ 64) (2 ^ (8 * p)) (under _ 8 shift-test p (pattern-lt x y z v))
 
-one-at-most : (b : Bool) → cond {A = ℕ} b 1 0 ≤ 1
+pub one-at-most : (b : Bool) → cond {A = ℕ} b 1 0 ≤ 1
 one-at-most true = omega arith
 one-at-most false = omega arith
 
-count-le : (t : ℕ) (g : ℕ → ℕ) (i n : ℕ) → count t (listed g i n) ≤ n
+pub count-le : (t : ℕ) (g : ℕ → ℕ) (i n : ℕ) → count t (listed g i n) ≤ n
 unfolding count
 count-le t g i zero = omega arith
 count-le t g i (suc n) = omega (arith, one-at-most (eqb (g i) t), count-le t g (suc i) n)
@@ -81,9 +78,6 @@ count-more t g i zero j e =
 count-more t g i (suc n) j e = omega (arith, count-more t g (suc i) n j (omega (arith, e)))
 
 -- the counts of the first n entries
-abbrev pub counted : (ℕ → ℕ) → ℕ → ℕ
-counted g n = word 8 (λ t. count t (listed g 0 n))
-
 pub counted-lt : (g : ℕ → ℕ) (n : ℕ) → n < 256 → counted g n < 2 ^ 64
 counted-lt g n h = word-lt 8 (λ t. count t (listed g 0 n)) (λ t. omega (arith, count-le t g 0 n))
 
@@ -108,3 +102,38 @@ counted-even g =
           ∙ sym (below-all _ 8 (λ t h. eq-eqb _ _ (word-told 8 c (λ t. 2) (λ t. omega (arith, count-le t g 0 16)) (λ t. omega arith) e t h)))
       | no e ↦ ne-eqb _ _ e ∙ sym (not-so _ (λ h. e (word-same 8 c (λ t. 2) (λ t lt. eqb→eq (c t) 2 (under _ 8 h t lt)))))
     ]
+
+-- the word taken apart, byte by byte
+module _ (c : ℕ → ℕ) (h : (t : ℕ) → c t < 256) where
+  lowest : (n t : ℕ) → word (suc n) (λ u. c (t + u)) % 256 ≡ c t
+  unfolding word
+  lowest n t = omega (arith, h (t + 0)) ∙ ap c (add-zero t)
+
+  others : (n t : ℕ) → word (suc n) (λ u. c (t + u)) / 256 ≡ word n (λ u. c (suc t + u))
+  unfolding word
+  others n t = omega (arith, h (t + 0)) ∙ word-same n (λ u. c (t + suc u)) (λ u. c (suc t + u)) (λ u lt. ap c (omega arith))
+
+  gone : (n t : ℕ) → rest t (word 8 c) ≡ word (suc n) (λ u. c (t + u)) → rest (suc t) (word 8 c) ≡ word n (λ u. c (suc t + u))
+  unfolding rest
+  gone n t e = ap (λ (w : ℕ). w / 256) e ∙ others n t
+
+  pub apart-word : apart (word 8 c) ≡ table c 8
+  unfolding apart rest table
+  apart-word =
+      let r0 : rest 0 (word 8 c) ≡ word 8 (λ u. c (0 + u)) = word-same 8 c (λ u. c (0 + u)) (λ u lt. ap c (omega arith)) in
+      let r1 = gone 7 0 r0 in
+      let r2 = gone 6 1 r1 in
+      let r3 = gone 5 2 r2 in
+      let r4 = gone 4 3 r3 in
+      let r5 = gone 3 4 r4 in
+      let r6 = gone 2 5 r5 in
+      let r7 = gone 1 6 r6 in
+      let e0 : rest 0 (word 8 c) % 256 ≡ c 0 = ap (λ (w : ℕ). w % 256) r0 ∙ lowest 7 0 in
+      let e1 : rest 1 (word 8 c) % 256 ≡ c 1 = ap (λ (w : ℕ). w % 256) r1 ∙ lowest 6 1 in
+      let e2 : rest 2 (word 8 c) % 256 ≡ c 2 = ap (λ (w : ℕ). w % 256) r2 ∙ lowest 5 2 in
+      let e3 : rest 3 (word 8 c) % 256 ≡ c 3 = ap (λ (w : ℕ). w % 256) r3 ∙ lowest 4 3 in
+      let e4 : rest 4 (word 8 c) % 256 ≡ c 4 = ap (λ (w : ℕ). w % 256) r4 ∙ lowest 3 4 in
+      let e5 : rest 5 (word 8 c) % 256 ≡ c 5 = ap (λ (w : ℕ). w % 256) r5 ∙ lowest 2 5 in
+      let e6 : rest 6 (word 8 c) % 256 ≡ c 6 = ap (λ (w : ℕ). w % 256) r6 ∙ lowest 1 6 in
+      let e7 : rest 7 (word 8 c) % 256 ≡ c 7 = ap (λ (w : ℕ). w % 256) r7 ∙ lowest 0 7 in
+      λ i. e0 i ∷ e1 i ∷ e2 i ∷ e3 i ∷ e4 i ∷ e5 i ∷ e6 i ∷ e7 i ∷ []

@@ -1,4 +1,5 @@
 pub mod Even
+pub mod Alike
 pub mod MaskedInversion
-pub mod Triples
+pub mod Walk
 pub mod Unique

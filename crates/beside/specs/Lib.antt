@@ -1,4 +1,6 @@
 pub mod Fitness
+pub mod Counts
 pub mod Host
 pub mod Inversion
+pub mod Report
 pub mod Stored

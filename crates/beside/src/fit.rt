@@ -4,6 +4,7 @@ ghost use mathlib.Core.Bool.{cond};
 ghost use Prim.Native.Nat.{_*_, _^_, _<_};
 ghost use lib.ListN.{length};
 ghost use Rattle.aes.specs.State.{at};
+ghost use Rattle.beside.specs.Counts.{counted};
 ghost use Rattle.beside.specs.Fitness.{pattern, patterns, even, fit, fitnessOf};
 use aes::reply;
 use aes::reply::Valued;
@@ -59,13 +60,21 @@ fn even(masks: &[u8], x: u8, y: u8, z: u8) -> bool
     requires { ⌜ (length (now masks) ≡ 16) × (x < 8) × (y < 8) × (z < 8) ⌝ }
     ensures { λ r. ⌜ r ≡ even (patterns (at (now (masks .entry))) x y z) ⌝ }
 {
+    counted(masks, x, y, z) == EACH_TWICE
+}
+
+// How often each of their eight patterns shows, a byte each, that of pattern 0 lowest.
+pub(crate) fn counted(masks: &[u8], x: u8, y: u8, z: u8) -> u64
+    requires { ⌜ (length (now masks) ≡ 16) × (x < 8) × (y < 8) × (z < 8) ⌝ }
+    ensures { λ r. ⌜ r ≡ counted (λ k. pattern x y z (at (now (masks .entry)) k)) 16 ⌝ }
+{
     let mut counts = 0;
     let mut i = 0;
     while i < 16 {
         counts += tick(masks[i], x, y, z);
         i += 1;
     }
-    counts == EACH_TWICE
+    counts
 }
 
 // One, in the byte that the bits x, y and z of b name.

@@ -14,6 +14,7 @@ use Rattle.face.proofs.slipgrease_expand_key.Reads as expand-key
 use Rattle.face.proofs.slipgrease_fitness.Reads as fitness
 use Rattle.face.proofs.slipgrease_inverse.Reads as inverse
 use Rattle.face.proofs.slipgrease_logarithm.Reads as logarithm
+use Rattle.face.proofs.slipgrease_mask_count.Reads as mask-count
 use Rattle.face.proofs.slipgrease_masked_inverse.Reads as masked-inverse
 use Rattle.face.proofs.slipgrease_multiply.Reads as multiply
 use Rattle.face.proofs.slipgrease_power.Reads as power
@@ -80,6 +81,9 @@ masked-inverse-unique κs args exit x y p q = p ∙ sym q
 
 pub fitness-unique : Unique fitness.Post
 fitness-unique κs args exit x y p q = p ∙ sym q
+
+pub mask-count-unique : Unique mask-count.Post
+mask-count-unique κs args exit x y p q = p ∙ sym q
 
 pub read-sheet-unique : UniqueWriting read-sheet.Post (λ κs e. e .1 .0 .now)
 read-sheet-unique κs args e f x y p q = both x y _ _ _ p q

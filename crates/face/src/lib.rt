@@ -6,6 +6,7 @@ ghost use Rattle.aes.specs.Calls.{expandKeyOf, encryptOf, decryptOf, recordPlai
 ghost use Rattle.masked.specs.Calls.{encryptPublishedOf, encryptBlocksOf, encryptMaskedOf, recordMaskedOf, decryptPublishedOf, decryptMaskedOf, recordMaskedDecryptionOf};
 ghost use Rattle.masks.specs.Sheet.{readSheetOf, writeSheetOf};
 ghost use Rattle.beside.specs.Fitness.{fitnessOf};
+ghost use Rattle.beside.specs.Report.{maskCountOf};
 ghost use Rattle.beside.specs.Inversion.{maskedInverse};
 ghost use Rattle.beside.specs.Stored.{convertOf};
 ghost use Rattle.beside.specs.Host.{sortedNumber, sortReplyOf};
@@ -160,6 +161,21 @@ pub extern "C" fn slipgrease_fitness(masks: &[u8]) -> u16
     ensures { λ r. ⌜ r ≡ packed (fitnessOf (now (masks .entry))) ⌝ }
 {
     packed(beside::fitness(masks))
+}
+
+#[no_mangle]
+pub extern "C" fn slipgrease_mask_count(
+    masks: &[u8],
+    row: u8,
+    byte: u8,
+    low: u8,
+    middle: u8,
+    high: u8,
+    pattern: u8,
+) -> u16
+    ensures { λ r. ⌜ r ≡ packed (maskCountOf (now (masks .entry)) row byte low middle high pattern) ⌝ }
+{
+    packed(beside::mask_count(masks, row, byte, low, middle, high, pattern))
 }
 
 #[no_mangle]

@@ -1,4 +1,5 @@
 pub mod Mask
+pub mod MaskTable
 pub mod Kinds
 pub mod Order
 pub mod Parts

@@ -10,7 +10,8 @@ use Rattle.aes.proofs.Xor.{sums}
 use Rattle.aes.proofs.Undo.{inv-mix-add, inv-shift-add}
 use Rattle.masks.specs.Mask.{_⊞_, afterRows, afterColumns}
 use Rattle.runs.specs.Back.{Back, block, keyed, unshifted, corrected, unboxed, unmixed, restored, uncovered, six, closing, sixes, backPoints}
-use Rattle.theorems.specs.MaskTable.{bare, summed}
+use Rattle.masks.specs.MaskTable.{bare}
+use Rattle.theorems.specs.Summed.{summed}
 use Rattle.theorems.specs.BackTable.{maskBackBy, plainBack, plainBackRecord}
 use Rattle.theorems.proofs.Cover.{Linked, linked-rounds, cover}
 use Rattle.theorems.proofs.AnyMasks.{add-swap, add-change, add-gone, add-bare}

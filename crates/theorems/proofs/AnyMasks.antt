@@ -9,7 +9,8 @@ use Rattle.aes.specs.Record.{Point, block, keyed, boxed, shifted, mixed, compen
 use Rattle.aes.proofs.Xor.{sums}
 use Rattle.aes.proofs.Undo.{mix-add, shift-add}
 use Rattle.masks.specs.Mask.{_⊞_}
-use Rattle.theorems.specs.MaskTable.{bare, maskBy, summed}
+use Rattle.masks.specs.MaskTable.{bare, maskBy}
+use Rattle.theorems.specs.Summed.{summed}
 use Rattle.theorems.proofs.Cover.{Linked, linked-rounds, cover}
 
 pub add-swap : (s m k : List ℕ) → s ⊞ m ⊞ k ≡ s ⊞ k ⊞ m

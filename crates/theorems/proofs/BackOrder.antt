@@ -14,7 +14,7 @@ use Rattle.masks.specs.Order.{boxOrder}
 use Rattle.masks.proofs.Ordered.{order-below}
 use Rattle.runs.specs.Back.{block, corrected, unboxed, backPoints}
 use Rattle.masked.specs.Calls.{blockAt, recordMaskedDecryptionOf}
-use Rattle.theorems.specs.MaskTable.{maskBy}
+use Rattle.masks.specs.MaskTable.{maskBy}
 use Rattle.theorems.specs.BackTable.{maskBackBy, maskBackAt, invCipherAt}
 use Rattle.theorems.specs.Neighbours.{betweenRecorded, betweenBareBack, betweenMasks, betweenMasksBack}
 use Rattle.theorems.specs.Ways.{Offsets}

@@ -10,7 +10,8 @@ use Rattle.aes.specs.State.{invSubBytes, addRoundKey}
 use Rattle.aes.specs.Record.{run}
 use Rattle.masks.specs.Mask.{_⊞_}
 use Rattle.runs.specs.Back.{Back, block, keyed, unshifted, corrected, unboxed, unmixed, restored, uncovered, backPoints, uncovering, maskedBackRecord}
-use Rattle.theorems.specs.MaskTable.{stepping, summed}
+use Rattle.masks.specs.MaskTable.{stepping}
+use Rattle.theorems.specs.Summed.{summed}
 use Rattle.theorems.specs.BackTable.{maskBackAt, plainBack, plainBackRecord, invCipherAt}
 use Rattle.theorems.proofs.Cover.{at-summed, map-at}
 use Rattle.theorems.proofs.PlainBack.{back-record-is}

@@ -14,7 +14,8 @@ use Rattle.masks.specs.Mask.{published, _⊞_, mask}
 use Rattle.runs.specs.Back.{block, keyed, closing, sixes, backPoints, maskedInvCipher}
 use Rattle.theorems.specs.Ways.{Offsets}
 use Rattle.masked.specs.Calls.{decryptMaskedOf, decryptPublishedOf}
-use Rattle.theorems.specs.MaskTable.{bare, summed}
+use Rattle.masks.specs.MaskTable.{bare}
+use Rattle.theorems.specs.Summed.{summed}
 use Rattle.theorems.specs.BackTable.{maskBackBy, maskBackAt, plainBack, plainBackRecord}
 use Rattle.theorems.proofs.CallLaws.{inv-cipher-size}
 use Rattle.theorems.proofs.Cover.{last-map, last-summed}

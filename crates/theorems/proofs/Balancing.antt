@@ -15,6 +15,7 @@ use Rattle.aes.proofs.Listed.{table-same}
 use Rattle.aes.proofs.Below.{below-all, under}
 use Rattle.beside.specs.Fitness.{pattern, count, even, balanced}
 use Rattle.beside.proofs.Even.{pattern-lt}
+use Rattle.beside.proofs.Alike.{turns}
 use Rattle.theorems.specs.Balance.{times, different, Balanced}
 
 -- Where σ undoes itself, the counts move with the patterns.
@@ -103,7 +104,7 @@ tested-balanced f h =
           any-order f h x y z hx hy hz (eqb-no (rest .0)) (eqb-no (rest .1)) (eqb-no (last .1)) t ht;
     }
 
-rising-different : (x y z : ℕ) → x < y → y < z → T (different x y z)
+pub rising-different : (x y z : ℕ) → x < y → y < z → T (different x y z)
 unfolding different
 rising-different x y z hx hy =
     rw (ne-eqb x y (λ e. absurd (omega arith)), ne-eqb y z (λ e. absurd (omega arith)), ne-eqb x z (λ e. absurd (omega arith))) tt
@@ -152,23 +153,10 @@ balanced-xor c f b =
 pub balanced-back : (c : ℕ) (f : ℕ → ℕ) → Balanced (λ o. c ⊕ f o) → Balanced f
 balanced-back c f b = balanced-same f (λ o. c ⊕ (c ⊕ f o)) (λ o h. sym (xor-cancel c (f o))) (balanced-xor c (λ o. c ⊕ f o) b)
 
--- the offsets turned, one by one
-turn : (t : ℕ) (g : ℕ → ℕ) → count t (listed (λ o. g ((o + 1) % 16)) 0 16) ≡ count t (listed g 0 16)
-unfolding count
-turn t g = omega arith
-
-turned-once : (f : ℕ → ℕ) → Balanced f → Balanced (λ o. f ((o + 1) % 16))
-turned-once f b =
-    record { twice = λ x y z t hx hy hz hd ht. turn t (λ o. pattern x y z (f o)) ∙ b .twice x y z t hx hy hz hd ht }
-
-later : (o c : ℕ) → (o + suc c) % 16 ≡ ((o + 1) % 16 + c) % 16
-later o c = omega arith
-
+-- the offsets turned
 pub balanced-turn : (f : ℕ → ℕ) → Balanced f → (c : ℕ) → Balanced (λ o. f ((o + c) % 16))
-balanced-turn f b zero = record { twice = b .twice }
-balanced-turn f b (suc c) =
-    balanced-same (λ o. f ((o + suc c) % 16)) (λ o. f (((o + 1) % 16 + c) % 16)) (λ o h. ap f (later o c))
-    (turned-once (λ o. f ((o + c) % 16)) (balanced-turn f b c))
+balanced-turn f b c =
+    record { twice = λ x y z t hx hy hz hd ht. turns t (λ o. pattern x y z (f o)) c ∙ b .twice x y z t hx hy hz hd ht }
 
 -- So what is not balanced is not so from another offset on and under a fixed byte either: if the upper three bits of g are not 111
 -- twice, f is not balanced.

@@ -23,7 +23,7 @@ use Rattle.runs.specs.Run.{maskedRecord}
 use Rattle.masked.specs.Calls.{blockAt, recordMaskedOf}
 use Rattle.masks.proofs.Counted.{one-at}
 use Rattle.masks.proofs.Ordered.{order-below, lucky}
-use Rattle.theorems.specs.MaskTable.{maskBy, maskAt}
+use Rattle.masks.specs.MaskTable.{maskBy, maskAt}
 use Rattle.theorems.specs.Neighbours.{betweenStates, betweenRecorded, betweenBare, betweenMasks}
 use Rattle.theorems.specs.Ways.{Offsets}
 use Rattle.theorems.proofs.Records.{one-offsets}

@@ -13,7 +13,7 @@ use Rattle.aes.specs.Calls.{encryptOf}
 use Rattle.masks.specs.Mask.{one, published, _⊞_, mask}
 use Rattle.runs.specs.Run.{maskedRecord}
 use Rattle.beside.specs.Stored.{stored, convertOf}
-use Rattle.theorems.specs.MaskTable.{maskBy}
+use Rattle.masks.specs.MaskTable.{maskBy}
 use Rattle.theorems.proofs.CallLaws.{cipher-size}
 use Rattle.theorems.proofs.AnyMasks.{add-change, add-gone}
 use Rattle.theorems.proofs.Relation.{relation-cipher}

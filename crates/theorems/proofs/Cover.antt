@@ -9,7 +9,7 @@ use lib.ListN.{length, getD}
 use Rattle.aes.specs.Record.{run, last}
 use Rattle.aes.proofs.Written.{last-append}
 use Rattle.masks.specs.Mask.{_⊞_}
-use Rattle.theorems.specs.MaskTable.{summed}
+use Rattle.theorems.specs.Summed.{summed}
 
 -- what is before each point, a mask or a state, is what is there at the point before it; m is before all of them
 abbrev pub Linked : {P : Type 0} → (P → List ℕ) → (P → List ℕ) → List ℕ → List P → Type 0

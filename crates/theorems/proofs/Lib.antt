@@ -15,6 +15,8 @@ pub mod States
 pub mod RecordStates
 pub mod OneMask
 pub mod RecordBalance
+pub mod Report
+pub mod LastLine
 pub mod RoundPoints
 pub mod BoxOrder
 pub mod Sheets

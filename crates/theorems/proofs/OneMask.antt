@@ -9,7 +9,7 @@ use Rattle.aes.specs.State.{at, cell, ahead, behind, shiftRows, invShiftRows}
 use Rattle.aes.proofs.Listed.{table-at}
 use Rattle.masks.specs.Mask.{advanced}
 use Rattle.masks.proofs.Counted.{label-on}
-use Rattle.theorems.specs.MaskTable.{stepping}
+use Rattle.masks.specs.MaskTable.{stepping}
 use Rattle.theorems.specs.Balance.{Balanced}
 use Rattle.theorems.proofs.Relation.{mask-entry}
 use Rattle.theorems.proofs.Balancing.{balanced-same, balanced-xor, balanced-turn}

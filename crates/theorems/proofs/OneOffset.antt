@@ -15,7 +15,7 @@ use Rattle.runs.specs.Back.{backPoints}
 use Rattle.runs.specs.Back as back
 use Rattle.masked.specs.Calls.{blockAt, encryptPublishedOf, encryptMaskedOf, recordMaskedOf, decryptPublishedOf, decryptMaskedOf, recordMaskedDecryptionOf}
 use Rattle.beside.specs.Fitness.{fitnessOf}
-use Rattle.theorems.specs.MaskTable.{maskAt}
+use Rattle.masks.specs.MaskTable.{maskAt}
 use Rattle.theorems.specs.BackTable.{maskBackAt, invCipherAt}
 use Rattle.theorems.specs.Balance.{Balanced, single, singleBack}
 use Rattle.theorems.proofs.Records.{one-offsets}

@@ -13,7 +13,7 @@ use Rattle.aes.specs.State.{at, dot, shiftRows, mixColumns}
 use Rattle.aes.specs.Record.{Point, block, keyed, boxed, shifted, mixed, compensated, closed, uncovered, wholes, points, cipherAt}
 use Rattle.aes.specs.Reply.{taken}
 use Rattle.masks.specs.Mask.{published, one, advanced, mask}
-use Rattle.theorems.specs.MaskTable.{maskBy}
+use Rattle.masks.specs.MaskTable.{maskBy}
 use Rattle.theorems.specs.Balance.{times, Balanced, single, howMany}
 use Rattle.masked.specs.Calls.{recordMaskedOf}
 use Rattle.beside.specs.Fitness.{pattern, count, fitnessOf}

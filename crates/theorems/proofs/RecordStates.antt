@@ -18,7 +18,7 @@ use Rattle.masks.specs.Mask.{_⊞_, published}
 use Rattle.runs.specs.Run.{maskedRecord}
 use Rattle.theorems.specs.Ways.{Offsets}
 use Rattle.masked.specs.Calls.{blockAt, recordMaskedOf}
-use Rattle.theorems.specs.MaskTable.{bare, maskBy, maskAt}
+use Rattle.masks.specs.MaskTable.{bare, maskBy, maskAt}
 use Rattle.theorems.proofs.States.{Sizes, run-sizes, summed-sizes, state-in, byte-in}
 use Rattle.theorems.proofs.CallLaws.{cipher-size}
 use Rattle.theorems.proofs.Relation.{plain-at, relation, relation-cipher}

@@ -14,7 +14,8 @@ use Rattle.aes.proofs.Listed.{table-at, table-same}
 use Rattle.theorems.proofs.PlainRecord.{record-is}
 use Rattle.masks.specs.Mask.{_⊞_, label, mask, maskedBox, compensation}
 use Rattle.runs.specs.Run.{covered, maskedRecord}
-use Rattle.theorems.specs.MaskTable.{stepping, maskAt, summed}
+use Rattle.masks.specs.MaskTable.{stepping, maskAt}
+use Rattle.theorems.specs.Summed.{summed}
 use Rattle.theorems.proofs.Cover.{at-summed, map-at}
 use Rattle.theorems.proofs.AnyMasks.{coveredBy, relation-any}
 

@@ -22,7 +22,8 @@ use Rattle.aes.proofs.Undo.{state-at}
 use Rattle.aes.proofs.PlainRun.{plain-sized}
 use Rattle.masks.specs.Mask.{published, _⊞_, mask}
 use Rattle.runs.specs.Run.{maskedRecord, maskedCipher}
-use Rattle.theorems.specs.MaskTable.{bare, maskBy, maskAt, summed}
+use Rattle.masks.specs.MaskTable.{bare, maskBy, maskAt}
+use Rattle.theorems.specs.Summed.{summed}
 use Rattle.theorems.specs.Ways.{Offsets}
 use Rattle.masked.specs.Calls.{encryptMaskedOf, encryptPublishedOf}
 use Rattle.theorems.proofs.CallLaws.{cipher-size}

@@ -13,7 +13,7 @@ use Rattle.aes.proofs.Listed.{table-at}
 use Rattle.aes.proofs.Written.{Sized}
 use Rattle.masks.specs.Mask.{_⊞_}
 use Rattle.masked.specs.Calls.{blockAt}
-use Rattle.theorems.specs.MaskTable.{summed}
+use Rattle.theorems.specs.Summed.{summed}
 
 -- sixteen bytes in each state
 abbrev pub Sizes : List (List ℕ) → Type 0

@@ -8,7 +8,7 @@ use Rattle.aes.specs.Key.{roundKey}
 use Rattle.aes.specs.Cipher.{invCipher}
 use Rattle.aes.specs.Record.{run}
 use Rattle.runs.specs.Back.{Back, block, keyed, unshifted, corrected, unboxed, unmixed, restored, uncovered, backPoints}
-use Rattle.theorems.specs.MaskTable.{bare, stepping}
+use Rattle.masks.specs.MaskTable.{bare, stepping}
 
 -- the mask at each point over any sequence K of masks, and over that of a run, as for an encryption
 unfoldable pub maskBackBy : (ℕ → List ℕ) → Back → List ℕ

@@ -1,4 +1,4 @@
-pub mod MaskTable
+pub mod Summed
 pub mod Neighbours
 pub mod Balance
 pub mod BackTable

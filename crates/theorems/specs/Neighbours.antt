@@ -9,7 +9,7 @@ use Rattle.aes.specs.Record.{keyed, boxed, cipherAt}
 use Rattle.masks.specs.Order.{between}
 use Rattle.runs.specs.Back.{corrected, unboxed}
 use Rattle.masked.specs.Calls.{blockAt}
-use Rattle.theorems.specs.MaskTable.{maskAt}
+use Rattle.masks.specs.MaskTable.{maskAt}
 use Rattle.theorems.specs.BackTable.{maskBackAt, invCipherAt}
 
 -- in the states of a run, and in those that a call has written

@@ -1,11 +1,14 @@
 //! Draws what a call is lent, with the causes of refusal that are asked for and no others.
 
+mod counts;
 mod packets;
 mod wraps;
 
+pub use counts::counted_inside;
 pub use packets::packet;
 
 use crate::cipher::{expand_key, Boxes};
+use crate::counts::ROUNDS;
 use crate::lent::{Buffer, Lent};
 use crate::masked::PUBLISHED;
 use crate::random::Random;
@@ -39,6 +42,7 @@ pub fn draw(random: &mut Random, boxes: &Boxes, order: &[Cause], broken: &[Cause
     let offset = if wants(Cause::Offset) { 16 + random.below(240) } else { random.below(16) } as u8;
     let form = form(random, wants(Cause::Form));
     let odd = random.below(2) == 1;
+    let (counted, round) = (counts::counted(random), random.below(ROUNDS) as u8);
     Lent {
         key,
         schedule,
@@ -59,6 +63,8 @@ pub fn draw(random: &mut Random, boxes: &Boxes, order: &[Cause], broken: &[Cause
         step,
         form,
         odd,
+        counted,
+        round,
     }
 }
 
@@ -151,7 +157,7 @@ fn byte_offsets(random: &mut Random, length: bool, range: bool) -> Vec<u8> {
 }
 
 /// Often 1, for which the library has its boxes stored; wrong, 0, 2, 3 or above 15.
-fn step(random: &mut Random, wrong: bool) -> u8 {
+pub fn step(random: &mut Random, wrong: bool) -> u8 {
     match (wrong, random.below(4)) {
         (true, n) => [0, 2, 3, 16 + random.below(240) as u8][n],
         (false, 0) => 1,

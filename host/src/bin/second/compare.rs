@@ -30,7 +30,8 @@ impl Trial<'_> {
             spoil(random, &mut answer, &mut expected);
         }
         let offsets: Vec<&u8> = lent.byte_offsets.lent().iter().take(17).collect();
-        let numbers = format!("offset {}, of bytes {offsets:?}, step {}, form {}", lent.offset, lent.step, lent.form);
+        let (offset, step, form, counted) = (lent.offset, lent.step, lent.form, lent.counted);
+        let numbers = format!("offset {offset}, of bytes {offsets:?}, step {step}, form {form}, {counted:?}");
         let given = (self.call.library)(&mut lent);
         let difference = lent.first_difference(&expected);
         let same = given == answer && difference.is_none();

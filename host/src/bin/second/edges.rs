@@ -1,5 +1,6 @@
 //! The edges that the scope and the requests name, one by one.
 
+mod counts;
 mod offsets;
 mod packets;
 mod records;
@@ -38,6 +39,9 @@ pub fn compare(spoiled: bool) -> Tally {
         records::refused(),
         records::zero_masks(),
         fitness(),
+        counts::inside_and_outside(),
+        counts::by_hand(),
+        counts::refused(),
         stored::refused(),
         stored::converted(),
         records::box_order(),
@@ -79,6 +83,7 @@ fn huge() -> Vec<Edge> {
         edge("reply to a schedule of a mebibyte", calls::encrypt(&many, &[0; 16], &mut [0; 16]), 2),
         edge("reply to a block of a mebibyte", calls::encrypt(&[0; 240], &many, &mut [0; 16]), 3),
         edge("reply to a mask table of a mebibyte", calls::fitness(&many) >> 8, 5),
+        edge("the same, counted", calls::mask_count(&many, 2, 0, 5, 6, 7, 7) >> 8, 5),
         edge("the same, decrypting", calls::decrypt_masked(&[0; 240], &[0; 16], &mut [0; 16], &many, &many, 1), 5),
         edge("reply to key data of a mebibyte, wrapped", calls::wrap(&[0; 240], &many, &mut [0; 24]), 16),
         edge("reply to a wrapped key of a mebibyte", calls::unwrap(&[0; 240], &many, &mut [0; 16]), 17),

@@ -1,5 +1,6 @@
 //! What a call is lent: buffers between guard bytes, and numbers.
 
+use crate::counts::Counted;
 use crate::random::Random;
 
 const GUARD: usize = 16;
@@ -73,6 +74,9 @@ pub struct Lent {
     pub step: u8,
     pub form: u8,
     pub odd: bool,
+    /// What is counted of the masks, and a round to count it in, of which a call is not told.
+    pub counted: Counted,
+    pub round: u8,
 }
 
 impl Lent {

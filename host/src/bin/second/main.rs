@@ -1,12 +1,13 @@
 //! The independent second program: `second SEED CASES [SPOILED]` compares every public call of the library with an
 //! implementation of its own, on so many cases drawn from the seed, on every step, every form, every offset of every byte, every
-//! length of key data and every header of a packet where there is one, and on all inputs of the calls that take bytes alone; and it
-//! compares blocks, keys and packets with themselves, sealed and opened again.
+//! length of key data and every header of a packet where there is one, on all counts of some mask tables, and on all inputs of the
+//! calls that take bytes alone; and it compares blocks, keys and packets with themselves, sealed and opened again.
 //!
 //! It prints for each call how many cases were compared and how many differ, and fails where any does. SPOILED names a call, or
 //! `edges`: what is expected of it is then changed, so that each of its cases must differ.
 //!
-//! `second stream CLEAR SCRAMBLED PIPES even|odd` looks at a stream that the desk tool has scrambled.
+//! `second stream CLEAR SCRAMBLED PIPES even|odd` looks at a stream that the desk tool has scrambled, and `second report SHEET`
+//! prints the report of the mask sheet in a file, as the proved program of make report should print it.
 
 #![forbid(unsafe_code)]
 
@@ -15,6 +16,7 @@ mod bytes;
 mod cases;
 mod cipher;
 mod compare;
+mod counts;
 mod edges;
 mod field;
 mod lent;
@@ -40,6 +42,8 @@ use crate::random::Random;
 use crate::report::{Report, Tally};
 use std::process::exit;
 
+const USAGE: &str = "usage: second SEED CASES [SPOILED], or second stream CLEAR SCRAMBLED PIPES even|odd, or second report SHEET";
+
 fn main() {
     let words: Vec<String> = std::env::args().skip(1).collect();
     let number = |i: usize| words.get(i).and_then(|word| word.parse().ok());
@@ -47,7 +51,8 @@ fn main() {
         (Some(seed), Some(cases), [_, _]) => Ok(all(seed, cases as usize, "")),
         (Some(seed), Some(cases), [_, _, spoiled]) => Ok(all(seed, cases as usize, spoiled)),
         (_, _, [word, clear, made, list, parity]) if word == "stream" => stream::compare(clear, made, list, parity),
-        _ => Err("usage: second SEED CASES [SPOILED], or second stream CLEAR SCRAMBLED PIPES even|odd".into()),
+        (_, _, [word, sheet]) if word == "report" => counts::print(sheet),
+        _ => Err(USAGE.into()),
     };
     match compared {
         Ok(same) => exit(i32::from(!same)),
@@ -90,6 +95,7 @@ fn all(seed: u64, cases: usize, spoiled: &str) -> bool {
         name_before = call.name;
     }
     trips::compare(&mut report, &mut random, &boxes, cases, spoiled);
+    report.row("mask_count", "all of some tables", counts::compare(&mut random, spoiled == "mask_count"));
     for call in BYTE_CALLS {
         let tally = call.compare(&mut random, call.name == spoiled);
         report.row(call.name, call.method, tally);

@@ -1,5 +1,7 @@
 //! The mask sheet, the fitness of masks and the sorting of replies, as the scope states them.
 
+use std::array::from_fn;
+
 /// The sheet of sixteen masks and a step.
 pub fn written(masks: &[u8], step: u8) -> Vec<u8> {
     match step {
@@ -13,6 +15,24 @@ pub fn step(sheet: &[u8]) -> u8 {
     match sheet[4] {
         1 => 1,
         _ => sheet[21],
+    }
+}
+
+/// The masks and the step of a sheet, or the number with which it is refused. Its length is judged twice: for a mark and a version,
+/// and then for what the version asks.
+pub fn read(sheet: &[u8]) -> Result<([u8; 16], u8), u8> {
+    if sheet.len() < 5 {
+        return Err(11);
+    }
+    let (head, body) = sheet.split_at(5);
+    let masks = || from_fn(|i| body[i]);
+    match (&head[..3], &head[3..], body.len()) {
+        (b"MSK", [0, 1], 16) => Ok((masks(), 1)),
+        (b"MSK", [0, 2], 17) if matches!(body[16], 4..=15) => Ok((masks(), body[16])),
+        (b"MSK", [0, 2], 17) => Err(15),
+        (b"MSK", [0, 1 | 2], _) => Err(11),
+        (b"MSK", _, _) => Err(13),
+        _ => Err(12),
     }
 }
 

@@ -5,7 +5,7 @@ use crate::opened::Opened;
 use crate::shown::shown;
 use std::ffi::OsStr;
 use std::fs::File;
-use std::io::{BufRead, BufReader, Read};
+use std::io::{BufRead, BufReader, ErrorKind, Read};
 
 /// As much as is kept at once: a line, a word, or all words together. The longest that any call takes is 8,192 digits, 256 blocks.
 const LIMIT: usize = 1 << 14;
@@ -102,6 +102,27 @@ impl<'a> Input<'a> {
             }
         }
         Ok(text(all))
+    }
+
+    /// Whether it may be words of hex digits, by its first byte, which is not taken. An empty input may be, too.
+    pub fn may_be_digits(&mut self) -> Result<bool, Fault> {
+        let first = loop {
+            match self.reader.fill_buf() {
+                Err(error) if error.kind() == ErrorKind::Interrupted => continue,
+                filled => break filled.map_err(|error| Fault::at(&self.name, error))?.first().copied(),
+            }
+        };
+        self.ended = first.is_none();
+        Ok(first.map_or(true, |byte| byte.is_ascii_hexdigit() || byte.is_ascii_whitespace()))
+    }
+
+    /// All bytes that are left, as they are.
+    pub fn bytes(&mut self) -> Result<Vec<u8>, Fault> {
+        let mut bytes = Vec::new();
+        while let Some(byte) = self.byte()? {
+            keep(byte, &mut bytes, &self.name)?;
+        }
+        Ok(bytes)
     }
 
     /// The next line, if there is one, and its number.

@@ -19,6 +19,7 @@ mod opened;
 mod pipe;
 mod progress;
 mod record;
+mod report;
 mod sheet;
 mod shown;
 mod stream;
@@ -27,6 +28,7 @@ mod table;
 mod vectors;
 mod words;
 mod wrap;
+mod written;
 
 use crate::fault::Fault;
 use crate::shown::{brief, count};
@@ -87,6 +89,7 @@ const COMMANDS: &[(&str, Command)] = &[
     ("pipe", Printing(pipe::pipe)),
     ("sheet", Printing(sheet::sheet)),
     ("fitness", Printing(sheet::fitness)),
+    ("report", Printing(report::report)),
     ("vectors", Printing(vectors::vectors)),
     ("completion", Printing(completion::completion)),
 ];

@@ -4,7 +4,6 @@ mod compare;
 mod cover;
 mod dump;
 mod json;
-mod private;
 mod run;
 mod summary;
 
@@ -17,6 +16,7 @@ use crate::fault::Fault;
 use crate::svg;
 use crate::table;
 use crate::words::{Given, GivenOffsets, Number, Words};
+use crate::written;
 use run::Asked;
 use slipgrease::Direction;
 use std::ffi::OsStr;
@@ -100,8 +100,8 @@ fn beside_dump(run: &Run, file: &OsStr, words: &mut Words) -> Result<Pair, Fault
 /// To a file that is its owner's alone and none of those that were read, or to standard output.
 fn draw(file: &OsStr, first: &Run, pair: Option<&Pair>, out: &mut dyn Write, words: &Words) -> Result<(), Fault> {
     match file == "-" {
-        true => Ok(out.write_all(svg::picture(first, pair, false).as_bytes())?),
-        false => private::write(file, &svg::picture(first, pair, true), &words.files_read()?),
+        true => Ok(out.write_all(svg::record(first, pair, false).as_bytes())?),
+        false => written::write_private(file, &svg::record(first, pair, true), &words.files_read()?),
     }
 }
 

@@ -3,8 +3,8 @@
 use crate::fault::Fault;
 use crate::hex::digits;
 use crate::shown::brief;
-use crate::words::{Number, Words};
-use slipgrease::Refusal;
+use crate::words::{Given, Number, Words};
+use slipgrease::{Masks, Refusal, Step};
 use std::io::Write;
 
 pub fn sheet(words: &mut Words, out: &mut dyn Write) -> Result<(), Fault> {
@@ -21,16 +21,20 @@ pub fn sheet(words: &mut Words, out: &mut dyn Write) -> Result<(), Fault> {
 fn read(words: &mut Words, out: &mut dyn Write) -> Result<(), Fault> {
     let sheet = words.bytes("sheet")?;
     words.end()?;
-    let mut masks = [0; 16];
-    let step = slipgrease::read_sheet(&sheet.bytes, &mut masks).map_err(|refusal| match (refusal, sheet.bytes.get(21)) {
+    let (masks, step) = taken(&sheet)?;
+    writeln!(out, "{masks}\nstep {step}")?;
+    Ok(())
+}
+
+/// The masks and the step of a sheet.
+pub fn taken(sheet: &Given) -> Result<(Masks, Step), Fault> {
+    Masks::from_sheet(&sheet.bytes).map_err(|refusal| match (refusal, sheet.bytes.get(21)) {
         (Refusal::StepWrong, Some(step)) => {
             let seen = format!("{}, {}: step {step}", sheet.what, sheet.place);
             Fault::refused_as(refusal, &seen, "a sheet of version 2 has a step from 4 to 15")
         }
         _ => sheet.refused(refusal),
-    })?;
-    writeln!(out, "{}\nstep {step}", digits(&masks))?;
-    Ok(())
+    })
 }
 
 fn write(words: &mut Words, step: Option<Number>, out: &mut dyn Write) -> Result<(), Fault> {

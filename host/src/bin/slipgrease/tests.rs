@@ -2,12 +2,14 @@
 
 mod asked;
 mod decryption;
+mod drawn;
 mod folder;
 mod given;
 mod input;
 mod offsets;
 mod random;
 mod record;
+mod report;
 mod steps;
 mod stored;
 mod stream;

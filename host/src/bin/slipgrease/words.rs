@@ -196,6 +196,15 @@ impl<'a> Words<'a> {
         given(what, place, &word)
     }
 
+    /// The same, or where standard input alone is given and does not begin with digits, its own bytes, as they are.
+    pub fn digits_or_own_bytes(&mut self, what: &'static str) -> Result<Given, Fault> {
+        if !self.input_alone()? || self.input.may_be_digits()? {
+            return self.bytes(what);
+        }
+        self.input.hold(&format!("the {what}"))?;
+        Ok(Given { what, place: self.input.name.clone(), bytes: self.input.bytes()? })
+    }
+
     /// Standard input, for a command that takes other things than words from it.
     pub fn input(&mut self) -> &mut Input<'a> {
         &mut self.input

@@ -9,7 +9,7 @@ use native.Mathlib.Omega.{arith}
 use lib.Dec.{lit<}
 use Rattle.aes.specs.State.{at}
 use Rattle.beside.specs.Fitness.{patterns, even, balanced}
-use Rattle.beside.proofs.Triples.{Passed, first, next-x, next-y, next-z, failed}
+use Rattle.beside.proofs.Walk.{Passed, first, next-x, next-y, next-z, failed}
 use Rattle.beside.proofs.fit.balanced.Statement.{statement}
 use Rattle.beside.proofs.fit.balanced.Tie as tie
 

@@ -1,55 +1,19 @@
--- Each turn counts the pattern of one more mask.
+-- Each pattern stands twice where the word of the counts says so.
 -- Assumes nothing.
-use mathlib.Core.Path.{_≡_, refl, sym, ap, _∙_}
-use mathlib.Core.List.{List}
-use Prim.Native.Nat.{ℕ, _≤_, _-_, _+_, _<_, _^_}
+use mathlib.Core.Path.{ap, _∙_}
+use Prim.Native.Nat.{ℕ}
 use borrow.Author.Needs.{needs}
-use native.Mathlib.Omega.{arith}
 use lib.Dec.{eqb}
 use Rattle.aes.specs.State.{at}
-use Rattle.beside.specs.Fitness.{pattern, count}
-use Rattle.beside.proofs.Even.{word, counted, pattern-lt, counted-lt, counted-more, counted-even}
+use Rattle.beside.specs.Fitness.{pattern}
+use Rattle.beside.proofs.Even.{counted-even}
 use Rattle.beside.proofs.fit.even.Statement.{statement}
 use Rattle.beside.proofs.fit.even.Tie as tie
 
--- what mask k shows
-abbrev shown : List ℕ → ℕ → ℕ → ℕ → ℕ → ℕ
-shown masks x y z k = pattern x y z (at masks k)
-
-abbrev Inv-loop : tie.InvT-loop
-Inv-loop masks x y z counts₀ i₀ counts i = (i ≤ 16) × (counts ≡ counted (shown masks x y z) i)
-
-abbrev μ-loop : tie.MeasureT-loop
-μ-loop masks x y z counts₀ i₀ counts i = 16 - i
-
-loop-holds : tie.Need-loop-holds Inv-loop μ-loop
-unfolding word count
-loop-holds c = (search needs, refl)
-
-add-counts : tie.Need-add-counts Inv-loop μ-loop
-add-counts c =
-    let loop = c .before .before .before in
-    let a = loop .before .before .args in
-    let g : ℕ → ℕ = shown (a .masks .now) (a .x) (a .y) (a .z) in
-    let lt : counted g (loop .loop .i + 1) < 2 ^ 64 = counted-lt g (loop .loop .i + 1) (omega arith) in
-    rw (loop .loop .inv .1, c .tick .ensures, ← counted-more g (loop .loop .i) (pattern-lt _ _ _ _)) (search needs)
-
-loop-again : tie.Need-loop-again Inv-loop μ-loop
-loop-again c =
-    let loop = c .before .before .before in
-    let a = loop .before .before .args in
-    let g : ℕ → ℕ = shown (a .masks .now) (a .x) (a .y) (a .z) in
-    (search needs, rw (loop .loop .inv .1, c .tick .ensures) (sym (counted-more g (loop .loop .i) (pattern-lt _ _ _ _))))
-
-returns : tie.Need-returns Inv-loop μ-loop
+returns : tie.Need-returns
 returns c =
-    let loop = c .before in
-    let a = loop .before .before .args in
-    let g : ℕ → ℕ = shown (a .masks .now) (a .x) (a .y) (a .z) in
-    let same : loop .loop .i ≡ 16 = omega arith in
-    ap (λ (v : ℕ). eqb v 0x0202020202020202) (loop .loop .inv .1 ∙ ap (counted g) same) ∙ counted-even g
+    let a = c .before .before .args in
+    ap (λ (v : ℕ). eqb v 0x0202020202020202) (c .counted .ensures) ∙ counted-even (λ k. pattern (a .x) (a .y) (a .z) (at (a .masks .now) k))
 
 pub even-spec : {M : Type 1} → statement M
-even-spec =
-    tie.close
-    (tie.spec Inv-loop μ-loop loop-holds (λ c. search needs) (λ c κs. search needs) add-counts (λ c. search needs) (λ c. search needs) loop-again returns)
+even-spec = tie.close (tie.spec (λ c κs. search needs) returns)

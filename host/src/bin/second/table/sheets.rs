@@ -1,7 +1,8 @@
-//! The mask sheet, and the fitness of masks.
+//! The mask sheet, the fitness of masks and the counts of their report.
 
 use super::{write, Call};
 use crate::answer::{number, packed};
+use crate::counts::{count, Counted};
 use crate::replies::Cause::*;
 use crate::sheet;
 use slipgrease::calls;
@@ -30,5 +31,15 @@ pub const CALLS: &[Call] = &[
         refusals: &[Masks],
         library: |l| packed(calls::fitness(l.masks.lent())),
         reference: |_, l| sheet::fitness(l.masks.lent()),
+    },
+    Call {
+        name: "mask_count",
+        method: "at each offset, row by row",
+        refusals: &[Masks],
+        library: |l| {
+            let Counted { row, byte, bits: [low, middle, high], pattern } = l.counted;
+            packed(calls::mask_count(l.masks.lent(), row, byte, low, middle, high, pattern))
+        },
+        reference: |_, l| count(l.masks.sixteen(), l.counted, usize::from(l.round), l.step),
     },
 ];

@@ -245,6 +245,33 @@ $ slipgrease fitness 000f3639535c656a959aa3acc6c9f0ff
 1 fit",
     },
     Help {
+        name: "report",
+        usage: "report [--summary] [--svg FILE] [SHEET]",
+        summary: "how evenly the masks of a sheet show, before it is shipped",
+        text: "\
+Prints a line for each row of the mask table in which the state is covered, 1 to 7, each byte, and each three bits of the mask over
+it, 0 being the lowest: these five numbers, and at how many of the sixteen offsets the bits show each of their eight patterns, from
+000 to 111, the highest bit first. A line is even where all eight counts are 2. Of fit masks all are, but in row 5, after
+MixColumns, they need not be. The last line has how many are even, and the lowest and the highest count. All is the same in any
+round, with any step.
+
+SHEET is as for sheet read. On standard input the sheet's own bytes are taken too, which begin with no digit: then all of it is the
+sheet.
+
+--summary prints a line for each row instead. --svg FILE draws how many of the 56 triples are even in each row and byte, and nothing
+is printed unless the summary is asked for too; - is standard output, for one of the two.",
+        example: "\
+$ slipgrease report 4d534b0001000f3639535c656a959aa3acc6c9f0ff
+1 0 0 1 2 2 2 2 2 2 2 2 2
+1 0 0 1 3 2 2 2 2 2 2 2 2
+...
+$ slipgrease report --summary 4d534b0001000f3639535c656a959aa3acc6c9f0ff
+row                       even     of  lowest  highest
+  1  covered block         896    896       2        2
+  2  after a key           896    896       2        2
+...",
+    },
+    Help {
         name: "vectors",
         usage: "vectors [--step D] [--json] [FILE]",
         summary: "a file of test vectors, run and counted",

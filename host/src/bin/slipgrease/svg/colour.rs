@@ -27,12 +27,20 @@ const HUES: [[u8; 3]; 16] = [
     [0xff, 0x89, 0xb0],
 ];
 
+/// What a report has where triples are uneven: a hue for the rows that a fit sheet has even, and a paler grey for row 5.
+pub const UNEVEN: [u8; 3] = [0xe8, 0x70, 0x2a];
+pub const UNEVEN_ANYWAY: [u8; 3] = [0xb4, 0xb4, 0xb4];
+
 /// The hue of the first digit, from half light to full by the second; 00 is white.
 pub fn colour(byte: u8) -> String {
-    if byte == 0 {
-        return "#ffffff".to_string();
+    match byte {
+        0 => shade([0xff; 3], 0, 1),
+        _ => shade(HUES[usize::from(byte >> 4)], 16 + u32::from(byte & 15), 31),
     }
-    let depth = 16 + u32::from(byte & 15);
-    let [red, green, blue] = HUES[usize::from(byte >> 4)].map(|part| 255 - (255 - u32::from(part)) * depth / 31);
+}
+
+/// So much of a hue; none of it is white.
+pub fn shade(hue: [u8; 3], depth: u32, full: u32) -> String {
+    let [red, green, blue] = hue.map(|part| 255 - (255 - u32::from(part)) * depth / full);
     format!("#{red:02x}{green:02x}{blue:02x}")
 }

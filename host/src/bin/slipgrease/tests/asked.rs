@@ -69,6 +69,7 @@ fn a_shell_has_the_words_of_every_command() {
     };
     assert_eq!(files("record"), ["--against", "--svg", "--key-file"]);
     assert_eq!((files("scramble"), files("vectors"), files("expand")), (vec!["--pipes"], vec![], vec!["--key-file"]));
+    assert_eq!(files("report"), ["--svg"]);
     assert_eq!((help::literals("sheet"), help::literals("completion")), (vec!["read", "write"], vec!["bash"]));
     let takes_files = COMMANDS.iter().map(|(name, _)| *name).filter(|name| help::takes_files(name));
     assert_eq!(takes_files.collect::<Vec<_>>(), ["scramble", "descramble", "vectors"]);

@@ -83,6 +83,7 @@ fn words_left_over_on_standard_input_are_too_many() {
     too_many("record", format!("{KEY} {BLOCK} {BLOCK}"), "word 3 of standard input");
     too_many("pipe", format!("{KEY} {BLOCK} {BLOCK}"), "word 3 of standard input");
     too_many("sheet read", format!("4d534b0001{masks} 1"), "word 2 of standard input");
+    too_many("report", format!("4d534b0001{masks} 1"), "word 2 of standard input");
     too_many("sheet write", format!("{masks} 1"), "word 2 of standard input");
     too_many("fitness", format!("{masks} {masks}"), "word 2 of standard input");
     too_many(&format!("convert {BLOCK}"), "1 2".to_string(), "word 2 of standard input");

@@ -43,6 +43,7 @@ fn words_come_before_what_takes_the_rest() {
         ("fitness", "the masks are missing: they are expected"),
         ("sheet", "the word read or write is missing: it is expected"),
         ("sheet read", "the sheet is missing: it is expected"),
+        ("report", "the sheet is missing: it is expected"),
         ("completion", "the shell is missing: it is expected"),
         ("convert 00", "the offset is missing: it is expected"),
     ];

@@ -1,6 +1,6 @@
 //! Random bytes, and words that nearly make sense, wherever a command takes any.
 
-use super::{help, offsets::SIXTEEN, run, stream, vectors, Folder, BLOCK, COMMANDS, KEY, PUBLISHED};
+use super::{help, offsets::SIXTEEN, report::SHEET, run, stream, vectors, Folder, BLOCK, COMMANDS, KEY, PUBLISHED};
 use numbers::Random;
 use std::ffi::OsString;
 use std::os::unix::ffi::OsStringExt;
@@ -65,7 +65,7 @@ impl Source<'_> {
     fn option(&mut self, name: &str) -> Vec<Vec<u8>> {
         let option = self.of(&help::options(name));
         let value = match option {
-            "--help" | "--even" | "--odd" | "--pass" | "--decrypt" | "--json" => match self.random.below(20) {
+            "--help" | "--even" | "--odd" | "--pass" | "--decrypt" | "--json" | "--summary" => match self.random.below(20) {
                 0 => return vec![[option.as_bytes(), b"="].concat()],
                 _ => return vec![option.into()],
             },
@@ -87,7 +87,7 @@ impl Source<'_> {
             1 => self.path(),
             _ if name.ends_with("scramble") => self.path(),
             2 => self.word(),
-            _ => self.of(&[KEY, BLOCK, PUBLISHED, "read", "write", "bash", "3", "--", "", "open"]).into(),
+            _ => self.of(&[KEY, BLOCK, PUBLISHED, SHEET, "read", "write", "bash", "3", "--", "", "open"]).into(),
         }
     }
 

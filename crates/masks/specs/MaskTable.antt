@@ -1,10 +1,10 @@
 -- Which mask lies on the state at each recorded point of a masked run.
 -- Assumes nothing.
-use mathlib.Core.List.{List, [], _∷_}
+use mathlib.Core.List.{List}
 use Prim.Native.Nat.{ℕ, suc, _*_}
 use Rattle.aes.specs.State.{state, shiftRows, mixColumns}
 use Rattle.aes.specs.Record.{Point, block, keyed, boxed, shifted, mixed, compensated, closed, uncovered}
-use Rattle.masks.specs.Mask.{_⊞_, mask}
+use Rattle.masks.specs.Mask.{mask}
 
 -- no mask at all
 abbrev pub bare : List ℕ
@@ -27,9 +27,3 @@ stepping M v d r = mask M v (d * r)
 
 abbrev pub maskAt : List ℕ → List ℕ → ℕ → Point → List ℕ
 maskAt M v d = maskBy (stepping M v d)
-
--- two records, state by state
-unfoldable pub summed : List (List ℕ) → List (List ℕ) → List (List ℕ)
-summed [] v = []
-summed (s ∷ u) [] = []
-summed (s ∷ u) (t ∷ v) = s ⊞ t ∷ summed u v
