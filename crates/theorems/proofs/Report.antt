@@ -3,9 +3,10 @@
 use mathlib.Core.Path.{_≡_, refl, sym, ap, subst, _∙_}
 use mathlib.Core.Bool.{Bool, true, cond, _&&_}
 use mathlib.Core.List.{List}
-use Prim.Native.Nat.{ℕ, zero, suc, _+_, _*_, _%_, _<_, _≤_}
+use Prim.Native.Nat.{ℕ, zero, suc, _+_, _*_, _/_, _%_, _<_, _≤_}
 use native.Mathlib.Omega.{arith}
-use lib.Dec.{T, leb, ltb}
+use native.Mathlib.Decide.{decLt}
+use lib.Dec.{T, leb, ltb, lit<}
 use lib.ListN.{length}
 use mir.Facts.{and-yes}
 use borrow.Author.Tests.{eq-eqb, ne-eqb, le-leb, lt-ltb}
@@ -92,6 +93,37 @@ under-balance (suc (suc (suc (suc (suc (suc (suc (suc n)))))))) r low high e = a
 triples-rise : T (below 56 (λ k. ltb (at triples (3 * k + 0)) (at triples (3 * k + 1)) && ltb (at triples (3 * k + 1)) (at triples (3 * k + 2)) && leb (at triples (3 * k + 2)) 7))
 unfolding below triples
 triples-rise = tt
+
+-- a triple as one number
+abbrev tripleAt : ℕ → ℕ
+tripleAt k = 64 * at triples (3 * k + 0) + 8 * at triples (3 * k + 1) + at triples (3 * k + 2)
+
+-- computed: the triples rise too, so that these 56 are all that there are
+triples-in-order : T (below 56 (λ k. ltb (tripleAt k) 512) && below 55 (λ k. ltb (tripleAt k) (tripleAt (suc k))))
+unfolding below triples
+triples-in-order = tt
+
+-- a row has sixteen times 56 lines
+rows-of : (n : ℕ) → n / 896 ≡ n / 56 / 16
+rows-of n = omega arith
+
+-- The lines rise by their first five numbers, here one number in which each has its own place.
+pub lines-rise : (n : ℕ) → 8192 * rowAt n + 512 * byteAt n + (64 * bitAt n 0 + 8 * bitAt n 1 + bitAt n 2) < 8192 * rowAt (suc n) + 512 * byteAt (suc n) + (64 * bitAt (suc n) 0 + 8 * bitAt (suc n) 1 + bitAt (suc n) 2)
+lines-rise n =
+    let tests = and-yes (below 56 (λ k. ltb (tripleAt k) 512)) (below 55 (λ k. ltb (tripleAt k) (tripleAt (suc k)))) triples-in-order in
+    elim (decLt (n % 56) 55) [
+      | yes h ↦
+          let next : suc n % 56 ≡ suc (n % 56) = omega (arith, h) in
+          let same : suc n / 56 ≡ n / 56 = omega (arith, h) in
+          let row : suc n / 896 ≡ n / 896 = rows-of (suc n) ∙ ap (λ (q : ℕ). q / 16) same ∙ sym (rows-of n) in
+          let byte : suc n / 56 % 16 ≡ n / 56 % 16 = ap (λ (q : ℕ). q % 16) same in
+          let more : tripleAt (n % 56) < tripleAt (suc n % 56) = rw next (lit< (under _ 55 (tests .1) (n % 56) h)) in
+          omega (arith, row, byte, more)
+      | no h ↦
+          let small : tripleAt (n % 56) < 512 = lit< (under _ 56 (tests .0) (n % 56) (omega arith)) in
+          let on : suc n / 56 ≡ suc (n / 56) = omega (arith, h) in
+          omega (arith, small, on, rows-of n, rows-of (suc n))
+    ]
 
 -- each line of the report is of a row, a byte and a triple
 pub line-inside : (n : ℕ) → n < 6272 → inside (rowAt n) (byteAt n) (bitAt n 0) (bitAt n 1) (bitAt n 2) ≡ true
