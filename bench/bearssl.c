@@ -8,46 +8,59 @@
 
 static const uint8_t zeros[16];
 
-// Its calls have the same shape for each implementation and are named after it.
-#define BEARSSL(way)                                                                                                     \
-    static br_aes_##way##_cbcenc_keys way##_encrypting;                                                                  \
-    static br_aes_##way##_cbcdec_keys way##_decrypting;                                                                  \
-                                                                                                                         \
-    static void way##_expand_key(const uint8_t key[32])                                                                  \
-    {                                                                                                                    \
-        br_aes_##way##_cbcenc_init(&way##_encrypting, key, 32);                                                          \
-    }                                                                                                                    \
-                                                                                                                         \
-    static void way##_start(const uint8_t key[32])                                                                       \
-    {                                                                                                                    \
-        way##_expand_key(key);                                                                                           \
-        br_aes_##way##_cbcdec_init(&way##_decrypting, key, 32);                                                          \
-    }                                                                                                                    \
-                                                                                                                         \
-    static void way##_chain(const uint8_t start[16], const uint8_t *input, size_t length, uint8_t *output)               \
-    {                                                                                                                    \
-        uint8_t vector[16];                                                                                              \
-        memcpy(vector, start, 16);                                                                                       \
-        memcpy(output, input, length);                                                                                   \
-        br_aes_##way##_cbcenc_run(&way##_encrypting, vector, output, length);                                            \
-    }                                                                                                                    \
-                                                                                                                         \
-    static void way##_unchain(const uint8_t start[16], const uint8_t *input, size_t length, uint8_t *output)             \
-    {                                                                                                                    \
-        uint8_t vector[16];                                                                                              \
-        memcpy(vector, start, 16);                                                                                       \
-        memcpy(output, input, length);                                                                                   \
-        br_aes_##way##_cbcdec_run(&way##_decrypting, vector, output, length);                                            \
-    }                                                                                                                    \
-                                                                                                                         \
-    static void way##_encrypt(const uint8_t input[16], uint8_t output[16])                                               \
-    {                                                                                                                    \
-        way##_chain(zeros, input, 16, output);                                                                           \
-    }                                                                                                                    \
-                                                                                                                         \
-    static void way##_decrypt(const uint8_t input[16], uint8_t output[16])                                               \
-    {                                                                                                                    \
-        way##_unchain(zeros, input, 16, output);                                                                         \
+// Its calls have the same shape for each implementation and are named after it. Those for a length of a key have its bytes behind
+// them.
+#define WITH_KEY(way, bytes)                                                                                         \
+    static br_aes_##way##_cbcenc_keys way##_encrypting_##bytes;                                                      \
+    static br_aes_##way##_cbcdec_keys way##_decrypting_##bytes;                                                      \
+                                                                                                                     \
+    static void way##_expand_key_##bytes(const uint8_t *key)                                                         \
+    {                                                                                                                \
+        br_aes_##way##_cbcenc_init(&way##_encrypting_##bytes, key, bytes);                                           \
+    }                                                                                                                \
+                                                                                                                     \
+    static void way##_start_##bytes(const uint8_t *key)                                                              \
+    {                                                                                                                \
+        way##_expand_key_##bytes(key);                                                                               \
+        br_aes_##way##_cbcdec_init(&way##_decrypting_##bytes, key, bytes);                                           \
+    }                                                                                                                \
+                                                                                                                     \
+    static void way##_chain_##bytes(const uint8_t start[16], const uint8_t *input, size_t length, uint8_t *output)   \
+    {                                                                                                                \
+        uint8_t vector[16];                                                                                          \
+        memcpy(vector, start, 16);                                                                                   \
+        memcpy(output, input, length);                                                                               \
+        br_aes_##way##_cbcenc_run(&way##_encrypting_##bytes, vector, output, length);                                \
+    }                                                                                                                \
+                                                                                                                     \
+    static void way##_unchain_##bytes(const uint8_t start[16], const uint8_t *input, size_t length, uint8_t *output) \
+    {                                                                                                                \
+        uint8_t vector[16];                                                                                          \
+        memcpy(vector, start, 16);                                                                                   \
+        memcpy(output, input, length);                                                                               \
+        br_aes_##way##_cbcdec_run(&way##_decrypting_##bytes, vector, output, length);                                \
+    }                                                                                                                \
+                                                                                                                     \
+    static void way##_encrypt_##bytes(const uint8_t input[16], uint8_t output[16])                                   \
+    {                                                                                                                \
+        way##_chain_##bytes(zeros, input, 16, output);                                                               \
+    }                                                                                                                \
+                                                                                                                     \
+    static void way##_decrypt_##bytes(const uint8_t input[16], uint8_t output[16])                                   \
+    {                                                                                                                \
+        way##_unchain_##bytes(zeros, input, 16, output);                                                             \
+    }
+
+#define BEARSSL(way)                               \
+    WITH_KEY(way, 16)                              \
+    WITH_KEY(way, 24)                              \
+    WITH_KEY(way, 32)                              \
+                                                   \
+    static void way##_start(const uint8_t key[32]) \
+    {                                              \
+        way##_start_16(key);                       \
+        way##_start_24(key);                       \
+        way##_start_32(key);                       \
     }
 
 BEARSSL(big)
@@ -75,14 +88,18 @@ static const char *x86ni_name(void)
     return br_aes_x86ni_cbcenc_get_vtable() == NULL ? NULL : "BearSSL x86ni, AES-NI";
 }
 
+// It has no key wrap.
+#define PEER(id, way)                                                                                                   \
+    {                                                                                                                   \
+        id, way##_name, way##_start, {way##_expand_key_16, way##_expand_key_24, way##_expand_key_32},                   \
+        {way##_encrypt_16, way##_encrypt_24, way##_encrypt_32}, {way##_decrypt_16, way##_decrypt_24, way##_decrypt_32}, \
+        NULL, NULL, way##_chain_32, way##_unchain_32                                                                    \
+    }
+
 const struct peer bearssl_peers[] = {
-    {"bearssl-big", big_name, big_start, big_expand_key, big_encrypt, big_decrypt, NULL, NULL, big_chain,
-     big_unchain},
-    {"bearssl-small", small_name, small_start, small_expand_key, small_encrypt, small_decrypt, NULL, NULL, small_chain,
-     small_unchain},
-    {"bearssl-ct64", ct64_name, ct64_start, ct64_expand_key, ct64_encrypt, ct64_decrypt, NULL, NULL, ct64_chain,
-     ct64_unchain},
-    {"bearssl-x86ni", x86ni_name, x86ni_start, x86ni_expand_key, x86ni_encrypt, x86ni_decrypt, NULL, NULL, x86ni_chain,
-     x86ni_unchain},
+    PEER("bearssl-big", big),
+    PEER("bearssl-small", small),
+    PEER("bearssl-ct64", ct64),
+    PEER("bearssl-x86ni", x86ni),
     {0},
 };

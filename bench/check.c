@@ -146,6 +146,39 @@ static void check_states(const struct vectors *vectors, size_t engine, const uin
     }
 }
 
+// FIPS 197, A.1 to A.3 and C.1 to C.3: the keys of each length, the masked calls at all offsets with all steps.
+static void check_key(const struct vectors *vectors, size_t engine, size_t i)
+{
+    static const uint8_t plain[] = {0x00, 0x11, 0x22, 0x33, 0x44, 0x55, 0x66, 0x77, 0x88, 0x99, 0xaa, 0xbb, 0xcc, 0xdd, 0xee, 0xff};
+    const struct engine *e = engines[engine];
+    const struct lengths *lengths = &lengths_of_keys[i];
+    const uint8_t *cipher = vectors->length[i].cipher;
+    uint8_t key[KEY_BYTES], schedule[SCHEDULE_BYTES], output[BLOCK_BYTES], offsets[BYTE_OFFSETS];
+
+    memset(schedule, UNTOUCHED, SCHEDULE_BYTES);
+    e->expand_key(vectors->length[i].key, lengths->key, schedule, lengths->schedule);
+    expect(same(schedule + lengths->schedule - BLOCK_BYTES, vectors->length[i].last, BLOCK_BYTES), engine, EXPAND_KEY, "A.", i + 1);
+    for (size_t k = 0; k < KEY_BYTES; k++)
+        key[k] = (uint8_t)k;
+    library.expand_key(key, lengths->key, schedule, lengths->schedule);
+    memset(output, UNTOUCHED, BLOCK_BYTES);
+    e->encrypt(schedule, lengths->schedule, plain, BLOCK_BYTES, output, BLOCK_BYTES);
+    expect(same(output, cipher, BLOCK_BYTES), engine, ENCRYPT, "C.", i + 1);
+    e->decrypt(schedule, lengths->schedule, cipher, BLOCK_BYTES, output, BLOCK_BYTES);
+    expect(same(output, plain, BLOCK_BYTES), engine, DECRYPT, "C.", i + 1);
+    for (size_t n = 0; n < 16 * STEPS; n++) {
+        for (size_t k = 0; k < BYTE_OFFSETS; k++)
+            offsets[k] = (uint8_t)((n + k) % 16);
+        memset(output, UNTOUCHED, BLOCK_BYTES);
+        e->encrypt_published(schedule, lengths->schedule, plain, BLOCK_BYTES, output, BLOCK_BYTES, offsets, BYTE_OFFSETS,
+                             steps[n / 16], 0);
+        expect(same(output, cipher, BLOCK_BYTES), engine, ENCRYPT_PUBLISHED, "C.", i + 1);
+        e->decrypt_published(schedule, lengths->schedule, cipher, BLOCK_BYTES, output, BLOCK_BYTES, offsets, BYTE_OFFSETS,
+                             steps[n / 16]);
+        expect(same(output, plain, BLOCK_BYTES), engine, DECRYPT_PUBLISHED, "C.", i + 1);
+    }
+}
+
 int check_engines(const struct vectors *vectors)
 {
     static const uint8_t zeros[BYTE_OFFSETS], rising[] = {0, 1, 2, 3, 4, 5, 6, 7, 8, 9, 10, 11, 12, 13, 14, 15};
@@ -155,6 +188,8 @@ int check_engines(const struct vectors *vectors)
             check_block(vectors, number, engine);
         for (size_t first = 0; first < BLOCKS;)
             first += check_many(vectors, first, engine);
+        for (size_t i = 0; i < KEY_LENGTHS; i++)
+            check_key(vectors, engine, i);
         check_appendix(vectors, engine);
         check_states(vectors, engine, zeros);
         check_states(vectors, engine, rising);

@@ -86,18 +86,31 @@ static void compare(enum call call, const struct arguments *a, size_t number)
     expect(reply[0] == reply[1] && same(written[0], written[1], sizeof written[0]), 1, call, "comparison", number);
 }
 
-// What a call takes.
-static struct arguments taken_by(enum call call)
+// What a call takes with a key of one of the lengths.
+static struct arguments taken_by(enum call call, const struct lengths *lengths)
 {
-    return (struct arguments){.key = KEY_BYTES, .schedule = SCHEDULE_BYTES, .input = BLOCK_BYTES, .output = BLOCK_BYTES,
+    return (struct arguments){.key = lengths->key, .schedule = lengths->schedule, .input = BLOCK_BYTES, .output = BLOCK_BYTES,
                               .masks = MASK_BYTES, .offsets = call == ENCRYPT_BLOCKS ? 1 : BYTE_OFFSETS, .step = 1,
-                              .states = call == RECORD_MASKED_DECRYPTION ? DECRYPTION_RECORD_BYTES : RECORD_BYTES};
+                              .states = call == RECORD_MASKED_DECRYPTION ? lengths->decryption_record : lengths->record};
+}
+
+// Each length of a key, of a schedule and of a record, or one byte more or less, with each other.
+static void compare_lengths(enum call call)
+{
+    struct arguments a = taken_by(call, &lengths_of_keys[0]);
+    for (size_t choice = 0; choice < 9 * 9 * 18; choice++) {
+        const struct lengths *of_record = &lengths_of_keys[choice / 81 / 3 % 3];
+        a.key = lengths_of_keys[choice / 3 % 3].key - 1 + choice % 3;
+        a.schedule = lengths_of_keys[choice / 9 / 3 % 3].schedule - 1 + choice / 9 % 3;
+        a.states = (choice / 81 / 9 == 0 ? of_record->record : of_record->decryption_record) - 1 + choice / 81 % 3;
+        compare(call, &a, choice + 1);
+    }
 }
 
 // The record of each offset, the same with another offset in each place, and a drawn one.
-static void compare_taken(enum call call)
+static void compare_taken(enum call call, const struct lengths *lengths)
 {
-    struct arguments a = taken_by(call);
+    struct arguments a = taken_by(call, lengths);
     size_t number = 0;
     for (size_t i = 0; i < CASES * STEPS; i++) {
         a.step = steps[i % STEPS];
@@ -119,7 +132,7 @@ static void compare_taken(enum call call)
 // great is in each place in turn.
 static void compare_refused(enum call call)
 {
-    const struct arguments taken = taken_by(call);
+    const struct arguments taken = taken_by(call, &lengths_of_keys[KEY_LENGTHS - 1]);
     struct arguments a = taken;
     for (size_t choice = 0; choice < 3 * 3 * 3 * 3 * 3 * 3 * 3 * 2 * 2 * EDGES; choice++) {
         size_t rest = choice;
@@ -140,9 +153,9 @@ static void compare_refused(enum call call)
 }
 
 // Every number of blocks that is taken, none too.
-static void compare_many_taken(void)
+static void compare_many_taken(const struct lengths *lengths)
 {
-    struct arguments a = taken_by(ENCRYPT_BLOCKS);
+    struct arguments a = taken_by(ENCRYPT_BLOCKS, lengths);
     for (a.offsets = 0; a.offsets <= MOST_BLOCKS; a.offsets++) {
         a.input = a.output = BLOCK_BYTES * a.offsets;
         a.place = a.offsets > 0 ? a.offsets - 1 : 0;
@@ -157,7 +170,7 @@ static void compare_many_taken(void)
 static void compare_many_refused(void)
 {
     static const size_t lengths[] = {0, 15, 16, 17, 4095, 4096, 4097, 4112}, counts[] = {0, 1, 2, 255, 256, 257};
-    const struct arguments taken = taken_by(ENCRYPT_BLOCKS);
+    const struct arguments taken = taken_by(ENCRYPT_BLOCKS, &lengths_of_keys[KEY_LENGTHS - 1]);
     struct arguments a = taken;
     for (size_t choice = 0; choice < 8 * 8 * 6 * 3 * 2 * 2 * EDGES; choice++) {
         size_t rest = choice;
@@ -175,10 +188,13 @@ static void compare_many_refused(void)
 
 void compare_engines(void)
 {
-    compare_many_taken();
+    for (size_t i = 0; i < KEY_LENGTHS; i++)
+        compare_many_taken(&lengths_of_keys[i]);
     compare_many_refused();
     for (int call = 0; call < WRAP; call++) {
-        compare_taken((enum call)call);
+        for (size_t i = 0; i < KEY_LENGTHS; i++)
+            compare_taken((enum call)call, &lengths_of_keys[i]);
+        compare_lengths((enum call)call);
         compare_refused((enum call)call);
     }
 }

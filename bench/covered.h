@@ -161,7 +161,7 @@ static inline uint8_t refusal_of_offsets(const uint8_t *offsets, size_t offsets_
 static inline uint8_t refusal(size_t schedule_length, size_t input_length, size_t output_length, size_t masks_length,
                               const uint8_t *offsets, size_t offsets_length, uint8_t step, uint8_t form)
 {
-    if (schedule_length != SCHEDULE)
+    if (rounds_of(schedule_length) == 0)
         return SCHEDULE_LENGTH;
     if (input_length != BLOCK)
         return INPUT_LENGTH;
@@ -174,7 +174,7 @@ static inline uint8_t refusal(size_t schedule_length, size_t input_length, size_
     return refusal_of_offsets(offsets, offsets_length, step, form);
 }
 
-// The same with one offset.
+// The same with one offset, for callers that keep to 32-byte keys.
 static inline uint8_t refusal_of_one(size_t schedule_length, size_t input_length, size_t output_length, uint8_t offset)
 {
     if (schedule_length != SCHEDULE)

@@ -32,6 +32,22 @@ const char *const call_names[MEASURED] = {
     "decrypt_masked, another record",
     "record_masked_decryption, another record",
     "scramble, unlisted",
+    "expand_key, 16-byte key",
+    "encrypt, 16-byte key",
+    "decrypt, 16-byte key",
+    "expand_key, 24-byte key",
+    "encrypt, 24-byte key",
+    "decrypt, 24-byte key",
+    "encrypt_published, 16-byte key",
+    "decrypt_published, 16-byte key",
+    "encrypt_published, 24-byte key",
+    "decrypt_published, 24-byte key",
+};
+
+const struct lengths lengths_of_keys[KEY_LENGTHS] = {
+    {16, 176, 816, 976},
+    {24, 208, 976, 1168},
+    {KEY_BYTES, SCHEDULE_BYTES, RECORD_BYTES, DECRYPTION_RECORD_BYTES},
 };
 
 const struct engine library = {

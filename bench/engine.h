@@ -9,6 +9,13 @@
 
 enum { KEY_BYTES = 32, SCHEDULE_BYTES = 240, BLOCK_BYTES = 16, MASK_BYTES = 16, BYTE_OFFSETS = 16, MOST_BLOCKS = 256 };
 enum { RECORD_BYTES = 1136, DECRYPTION_RECORD_BYTES = 1360 };
+
+// How long a key can be, and what goes with that: its schedule, and the records of runs with it. Those above are of the longest.
+enum { KEY_LENGTHS = 3 };
+struct lengths {
+    size_t key, schedule, record, decryption_record;
+};
+extern const struct lengths lengths_of_keys[KEY_LENGTHS];
 enum { LEAST_KEY_DATA = 16, MOST_KEY_DATA = 256, WRAP_EXTRA = 8 };
 enum { PACKET_BYTES = 188, HEADER_BYTES = 4, PIPES = 7, PIPE_BYTES = 498, PIPES_BYTES = PIPES * PIPE_BYTES };
 
@@ -16,8 +23,8 @@ enum { PACKET_BYTES = 188, HEADER_BYTES = 4, PIPES = 7, PIPE_BYTES = 498, PIPES_
 enum { EVEN_AT = 2, ODD_AT = EVEN_AT + SCHEDULE_BYTES, START_AT = ODD_AT + SCHEDULE_BYTES };
 
 // After the calls come some of them once more: two with another step than 1, which makes them work out their boxes, the masked
-// ones of one block at a record that is not that of one offset, which makes them work out its constants, and one on a packet
-// whose PID is not listed.
+// ones of one block at a record that is not that of one offset, which makes them work out its constants, one on a packet whose PID
+// is not listed, and some with shorter keys: those that other libraries have come first, in the order that they have above.
 enum call {
     EXPAND_KEY,
     ENCRYPT,
@@ -46,6 +53,16 @@ enum call {
     DECRYPT_MASKED_ANOTHER,
     RECORD_MASKED_DECRYPTION_ANOTHER,
     SCRAMBLE_UNLISTED,
+    EXPAND_KEY_16,
+    ENCRYPT_16,
+    DECRYPT_16,
+    EXPAND_KEY_24,
+    ENCRYPT_24,
+    DECRYPT_24,
+    ENCRYPT_PUBLISHED_16,
+    DECRYPT_PUBLISHED_16,
+    ENCRYPT_PUBLISHED_24,
+    DECRYPT_PUBLISHED_24,
     MEASURED,
 };
 

@@ -36,23 +36,23 @@ const char *maker_name(const struct maker *maker)
 int has_call(const struct maker *maker, enum call call)
 {
     const struct peer *peer = maker->peer;
-    if (peer == NULL || call <= DECRYPT)
-        return peer == NULL || peer->encrypt != NULL;
+    if (peer == NULL || call <= DECRYPT || (call >= EXPAND_KEY_16 && call <= DECRYPT_24))
+        return peer == NULL || peer->encrypt[0] != NULL;
     if (call == WRAP || call == UNWRAP)
         return peer->wrap != NULL;
     return (call == SCRAMBLE || call == DESCRAMBLE) && peer->chain != NULL;
 }
 
 // It is started with another key, so that a key expansion that does nothing shows.
-static int right_blocks(const struct peer *peer, const struct vectors *vectors)
+static int right_blocks(const struct peer *peer, const struct vectors *vectors, size_t i)
 {
-    const uint8_t *plain = vectors->block[0].plain, *cipher = vectors->block[0].cipher;
+    const uint8_t *plain = vectors->block[0].plain, *cipher = vectors->length[i].cipher;
     uint8_t there[BLOCK_BYTES] = {0}, back[BLOCK_BYTES] = {0};
     peer->start(vectors->key);
-    peer->expand_key(vectors->block[0].key);
-    peer->encrypt(plain, there);
+    peer->expand_key[i](vectors->block[0].key);
+    peer->encrypt[i](plain, there);
     peer->start(vectors->block[0].key);
-    peer->decrypt(cipher, back);
+    peer->decrypt[i](cipher, back);
     return memcmp(there, cipher, BLOCK_BYTES) == 0 && memcmp(back, plain, BLOCK_BYTES) == 0;
 }
 
@@ -78,8 +78,10 @@ static int right_chains(const struct peer *peer, const struct vectors *vectors)
 // Where a peer is wrong, if it is.
 static const char *wrong_at(const struct peer *peer, const struct vectors *vectors)
 {
-    if (peer->encrypt != NULL && !right_blocks(peer, vectors))
-        return "FIPS 197 C.3";
+    static const char *const examples[KEY_LENGTHS] = {"FIPS 197 C.1", "FIPS 197 C.2", "FIPS 197 C.3"};
+    for (size_t i = 0; i < KEY_LENGTHS; i++)
+        if (peer->encrypt[i] != NULL && !right_blocks(peer, vectors, i))
+            return examples[i];
     if (peer->wrap != NULL && !right_wraps(peer, vectors))
         return "RFC 3394 4.6";
     return peer->chain != NULL && !right_chains(peer, vectors) ? "SP 800-38A F.2.5" : NULL;

@@ -46,15 +46,15 @@ static inline void ending(uint8_t end[BLOCK], const uint8_t masks[TWICE], const 
 }
 
 // The finished block alone, from a label on.
-static inline void run(const uint8_t *schedule, const uint8_t *input, uint8_t *restrict output, const uint8_t masks[TWICE],
-                       const uint8_t boxes[BOXES], const constant compensations[MASKS], const struct start *start, size_t label,
-                       size_t step)
+static inline void run(const uint8_t *schedule, size_t rounds, const uint8_t *input, uint8_t *restrict output,
+                       const uint8_t masks[TWICE], const uint8_t boxes[BOXES], const constant compensations[MASKS],
+                       const struct start *start, size_t label, size_t step)
 {
     uint8_t end[BLOCK], state[BLOCK];
-    ending(end, masks, start, label + ROUNDS * step);
+    ending(end, masks, start, label + rounds * step);
     memcpy(state, input, BLOCK);
     cover(state, masks, start, label);
-    for (size_t round = 0; round < ROUNDS - 1; round++) {
+    for (size_t round = 0; round < rounds - 1; round++) {
         add_round_key(state, schedule, round);
         substitute_covered(state, boxes, start, label);
         label = (label + step) % MASKS;
@@ -62,25 +62,26 @@ static inline void run(const uint8_t *schedule, const uint8_t *input, uint8_t *r
         mix_columns(state);
         add(state, compensations[label]);
     }
-    add_round_key(state, schedule, ROUNDS - 1);
+    add_round_key(state, schedule, rounds - 1);
     substitute_covered(state, boxes, start, label);
     shift_rows(state);
-    add_round_key(state, schedule, ROUNDS);
+    add_round_key(state, schedule, rounds);
     add(state, end);
     memcpy(output, state, BLOCK);
 }
 
-// The 71 states.
-static inline void record(const uint8_t *schedule, const uint8_t *input, uint8_t *restrict states, const uint8_t masks[TWICE],
-                          const uint8_t boxes[BOXES], const constant compensations[MASKS], const struct start *start, size_t step)
+// All states of a run.
+static inline void record(const uint8_t *schedule, size_t rounds, const uint8_t *input, uint8_t *restrict states,
+                          const uint8_t masks[TWICE], const uint8_t boxes[BOXES], const constant compensations[MASKS],
+                          const struct start *start, size_t step)
 {
     uint8_t end[BLOCK], state[BLOCK];
     size_t label = start->first;
-    ending(end, masks, start, label + ROUNDS * step);
+    ending(end, masks, start, label + rounds * step);
     memcpy(state, input, BLOCK);
     cover(state, masks, start, label);
     states = keep(state, states);
-    for (size_t round = 0; round < ROUNDS; round++) {
+    for (size_t round = 0; round < rounds; round++) {
         add_round_key(state, schedule, round);
         states = keep(state, states);
         substitute_covered(state, boxes, start, label);
@@ -88,12 +89,12 @@ static inline void record(const uint8_t *schedule, const uint8_t *input, uint8_t
         states = keep(state, states);
         shift_rows(state);
         states = keep(state, states);
-        if (round < ROUNDS - 1)
+        if (round < rounds - 1)
             mix_columns(state);
         else
-            add_round_key(state, schedule, ROUNDS);
+            add_round_key(state, schedule, rounds);
         states = keep(state, states);
-        add(state, round < ROUNDS - 1 ? compensations[label % MASKS] : end);
+        add(state, round < rounds - 1 ? compensations[label % MASKS] : end);
         states = keep(state, states);
     }
 }
@@ -101,18 +102,18 @@ static inline void record(const uint8_t *schedule, const uint8_t *input, uint8_t
 // The run over the published masks from any start. What is stored of them is with step 1, and at the offsets of 0; anything else
 // is worked out before the block is read. Where the offsets are those of 0 the run is told so once more: by gcc -O3 that saves
 // 240 instructions.
-static inline void sealed(const uint8_t *schedule, const uint8_t *input, uint8_t *restrict output, const struct start *start,
-                          size_t step)
+static inline void sealed(const uint8_t *schedule, size_t rounds, const uint8_t *input, uint8_t *restrict output,
+                          const struct start *start, size_t step)
 {
     uint8_t place[BOXES];
     const uint8_t *boxes = published_boxes(stored_boxes, place, sbox, step);
     if (start->one) {
         struct start of_zero = start_with_one(0);
-        run(schedule, input, output, published, boxes, stored_compensations, &of_zero, start->first, step);
+        run(schedule, rounds, input, output, published, boxes, stored_compensations, &of_zero, start->first, step);
     } else {
         constant compensations[MASKS];
         make_compensations_at(compensations, published, start);
-        run(schedule, input, output, published, boxes, compensations, start, start->first, step);
+        run(schedule, rounds, input, output, published, boxes, compensations, start, start->first, step);
     }
 }
 
@@ -120,7 +121,7 @@ static inline void sealed(const uint8_t *schedule, const uint8_t *input, uint8_t
 static inline uint8_t refusal_of_many(size_t schedule_length, size_t input_length, size_t output_length, const uint8_t *offsets,
                                       size_t offsets_length, uint8_t step, uint8_t form)
 {
-    if (schedule_length != SCHEDULE)
+    if (rounds_of(schedule_length) == 0)
         return SCHEDULE_LENGTH;
     if (input_length % BLOCK != 0 || input_length > BLOCK * MOST_BLOCKS)
         return INPUT_LENGTH;
@@ -139,7 +140,7 @@ uint8_t translated_encrypt_published(const uint8_t *schedule, size_t schedule_le
     if (refused != DONE)
         return refused;
     struct start start = start_with(offsets);
-    sealed(schedule, input, output, &start, step);
+    sealed(schedule, rounds_of(schedule_length), input, output, &start, step);
     return DONE;
 }
 
@@ -150,7 +151,7 @@ uint8_t translated_encrypt_one(const uint8_t *schedule, size_t schedule_length, 
     if (refused != DONE)
         return refused;
     struct start start = start_with_one(offset);
-    sealed(schedule, input, output, &start, 1);
+    sealed(schedule, rounds_of(SCHEDULE), input, output, &start, 1);
     return DONE;
 }
 
@@ -163,9 +164,10 @@ uint8_t translated_encrypt_blocks(const uint8_t *schedule, size_t schedule_lengt
         return refused;
     uint8_t place[BOXES];
     const uint8_t *boxes = published_boxes(stored_boxes, place, sbox, step);
+    size_t rounds = rounds_of(schedule_length);
     struct start start = start_with_one(0);
     for (size_t k = 0; k < offsets_length; k++, input += BLOCK, output += BLOCK)
-        run(schedule, input, output, published, boxes, stored_compensations, &start, offsets[k], step);
+        run(schedule, rounds, input, output, published, boxes, stored_compensations, &start, offsets[k], step);
     return DONE;
 }
 
@@ -184,7 +186,7 @@ uint8_t translated_encrypt_masked(const uint8_t *schedule, size_t schedule_lengt
     make_compensations(compensations, twice);
     if (!start.one)
         make_compensations_at(compensations, twice, &start);
-    run(schedule, input, output, twice, boxes, compensations, &start, start.first, step);
+    run(schedule, rounds_of(schedule_length), input, output, twice, boxes, compensations, &start, start.first, step);
     return DONE;
 }
 
@@ -195,7 +197,7 @@ uint8_t translated_record_masked(const uint8_t *schedule, size_t schedule_length
     uint8_t refused = refusal(schedule_length, input_length, BLOCK, masks_length, offsets, offsets_length, step, 0);
     if (refused != DONE)
         return refused;
-    if (states_length != BLOCK * STATES)
+    if (states_length != record_length(rounds_of(schedule_length)))
         return RECORD_LENGTH;
     struct start start = start_with(offsets);
     uint8_t twice[TWICE], boxes[BOXES];
@@ -205,6 +207,6 @@ uint8_t translated_record_masked(const uint8_t *schedule, size_t schedule_length
     make_compensations(compensations, twice);
     if (!start.one)
         make_compensations_at(compensations, twice, &start);
-    record(schedule, input, states, twice, boxes, compensations, &start, step);
+    record(schedule, rounds_of(schedule_length), input, states, twice, boxes, compensations, &start, step);
     return DONE;
 }

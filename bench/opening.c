@@ -43,17 +43,17 @@ static inline void begin_round(uint8_t state[BLOCK], const uint8_t boxes[BOXES],
 }
 
 // The finished block alone, from a label on.
-static inline void run(const uint8_t *schedule, const uint8_t *input, uint8_t *restrict output, const uint8_t masks[TWICE],
-                       const uint8_t boxes[BOXES], const constant rows[MASKS], const constant columns[MASKS],
-                       const struct start *start, size_t label, size_t step)
+static inline void run(const uint8_t *schedule, size_t rounds, const uint8_t *input, uint8_t *restrict output,
+                       const uint8_t masks[TWICE], const uint8_t boxes[BOXES], const constant rows[MASKS],
+                       const constant columns[MASKS], const struct start *start, size_t label, size_t step)
 {
     uint8_t end[BLOCK], state[BLOCK];
-    mask(end, masks, start, label + ROUNDS * step);
+    mask(end, masks, start, label + rounds * step);
     memcpy(state, input, BLOCK);
     cover(state, masks, start, label);
-    add_round_key(state, schedule, ROUNDS);
+    add_round_key(state, schedule, rounds);
     begin_round(state, boxes, rows, start, label);
-    for (size_t round = ROUNDS - 1; round > 0; round--) {
+    for (size_t round = rounds - 1; round > 0; round--) {
         label = (label + step) % MASKS;
         add_round_key(state, schedule, round);
         inv_mix_columns(state);
@@ -65,19 +65,19 @@ static inline void run(const uint8_t *schedule, const uint8_t *input, uint8_t *r
     memcpy(output, state, BLOCK);
 }
 
-// The 85 states.
-static inline void record(const uint8_t *schedule, const uint8_t *input, uint8_t *restrict states, const uint8_t masks[TWICE],
-                          const uint8_t boxes[BOXES], const constant rows[MASKS], const constant columns[MASKS],
-                          const struct start *start, size_t step)
+// All states of a run.
+static inline void record(const uint8_t *schedule, size_t rounds, const uint8_t *input, uint8_t *restrict states,
+                          const uint8_t masks[TWICE], const uint8_t boxes[BOXES], const constant rows[MASKS],
+                          const constant columns[MASKS], const struct start *start, size_t step)
 {
     uint8_t state[BLOCK];
     size_t label = start->first;
     memcpy(state, input, BLOCK);
     cover(state, masks, start, label);
     states = keep(state, states);
-    add_round_key(state, schedule, ROUNDS);
+    add_round_key(state, schedule, rounds);
     states = keep(state, states);
-    for (size_t round = ROUNDS; round-- > 0;) {
+    for (size_t round = rounds; round-- > 0;) {
         inv_shift_rows(state);
         states = keep(state, states);
         add(state, rows[label % MASKS]);
@@ -100,18 +100,18 @@ static inline void record(const uint8_t *schedule, const uint8_t *input, uint8_t
 
 // The run over the published masks from any start. What is stored of them is with step 1, and at the offsets of 0; anything else
 // is worked out before the block is read. Where the offsets are those of 0 the run is told so once more, as in masked.c.
-static inline void unsealed(const uint8_t *schedule, const uint8_t *input, uint8_t *restrict output, const struct start *start,
-                            size_t step)
+static inline void unsealed(const uint8_t *schedule, size_t rounds, const uint8_t *input, uint8_t *restrict output,
+                            const struct start *start, size_t step)
 {
     uint8_t place[BOXES];
     const uint8_t *boxes = published_boxes(stored_boxes, place, inv_sbox, step);
     if (start->one) {
         struct start of_zero = start_with_one(0);
-        run(schedule, input, output, published, boxes, stored_rows, stored_columns, &of_zero, start->first, step);
+        run(schedule, rounds, input, output, published, boxes, stored_rows, stored_columns, &of_zero, start->first, step);
     } else {
         constant rows[MASKS], columns[MASKS];
         make_corrections_at(rows, columns, published, start);
-        run(schedule, input, output, published, boxes, rows, columns, start, start->first, step);
+        run(schedule, rounds, input, output, published, boxes, rows, columns, start, start->first, step);
     }
 }
 
@@ -123,7 +123,7 @@ uint8_t translated_decrypt_published(const uint8_t *schedule, size_t schedule_le
     if (refused != DONE)
         return refused;
     struct start start = start_with(offsets);
-    unsealed(schedule, input, output, &start, step);
+    unsealed(schedule, rounds_of(schedule_length), input, output, &start, step);
     return DONE;
 }
 
@@ -134,7 +134,7 @@ uint8_t translated_decrypt_one(const uint8_t *schedule, size_t schedule_length, 
     if (refused != DONE)
         return refused;
     struct start start = start_with_one(offset);
-    unsealed(schedule, input, output, &start, 1);
+    unsealed(schedule, rounds_of(SCHEDULE), input, output, &start, 1);
     return DONE;
 }
 
@@ -153,7 +153,7 @@ uint8_t translated_decrypt_masked(const uint8_t *schedule, size_t schedule_lengt
     make_corrections(rows, columns, twice);
     if (!start.one)
         make_corrections_at(rows, columns, twice, &start);
-    run(schedule, input, output, twice, boxes, rows, columns, &start, start.first, step);
+    run(schedule, rounds_of(schedule_length), input, output, twice, boxes, rows, columns, &start, start.first, step);
     return DONE;
 }
 
@@ -165,7 +165,7 @@ uint8_t translated_record_masked_decryption(const uint8_t *schedule, size_t sche
     uint8_t refused = refusal(schedule_length, input_length, BLOCK, masks_length, offsets, offsets_length, step, 0);
     if (refused != DONE)
         return refused;
-    if (states_length != BLOCK * DECRYPTION_STATES)
+    if (states_length != decryption_record_length(rounds_of(schedule_length)))
         return RECORD_LENGTH;
     struct start start = start_with(offsets);
     uint8_t twice[TWICE], boxes[BOXES];
@@ -175,6 +175,6 @@ uint8_t translated_record_masked_decryption(const uint8_t *schedule, size_t sche
     make_corrections(rows, columns, twice);
     if (!start.one)
         make_corrections_at(rows, columns, twice, &start);
-    record(schedule, input, states, twice, boxes, rows, columns, &start, step);
+    record(schedule, rounds_of(schedule_length), input, states, twice, boxes, rows, columns, &start, step);
     return DONE;
 }

@@ -1,4 +1,5 @@
-// Other libraries that are timed beside ours where they are installed: AES-256, a key or a block at a time, key wrap and CBC.
+// Other libraries that are timed beside ours where they are installed: AES, a key or a block at a time, and with 32-byte keys key
+// wrap and CBC.
 #ifndef PEER_H
 #define PEER_H
 
@@ -10,13 +11,14 @@ struct peer {
     const char *id;
     // What it is called in the table, and which of its ways it goes on this machine; NULL where it cannot run.
     const char *(*name)(void);
-    // Expands the key for both directions.
+    // Expands the key for both directions, and its first 16 and 24 bytes as shorter keys.
     void (*start)(const uint8_t key[32]);
-    // Of these three, and of the two and two below, either all are there or none, which is NULL.
+    // Of these three, each for keys of 16, 24 and 32 bytes, and of the two and two below, either all are there or none, which is
+    // NULL.
     // Expands the key for encryption alone: this is what is timed as expand_key.
-    void (*expand_key)(const uint8_t key[32]);
-    void (*encrypt)(const uint8_t input[16], uint8_t output[16]);
-    void (*decrypt)(const uint8_t input[16], uint8_t output[16]);
+    void (*expand_key[3])(const uint8_t *key);
+    void (*encrypt[3])(const uint8_t input[16], uint8_t output[16]);
+    void (*decrypt[3])(const uint8_t input[16], uint8_t output[16]);
     // Key wrap of 32 bytes, and back.
     void (*wrap)(const uint8_t key_data[32], uint8_t wrapped[40]);
     void (*unwrap)(const uint8_t wrapped[40], uint8_t key_data[32]);

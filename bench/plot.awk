@@ -105,7 +105,7 @@ END {
     bar(0, 0, width, height, "paper")
     text(left, 44, "title", "start", "Slipgrease: instructions for a key, a block, a step of a key wrap or a packet")
     text(left, 69, "under", "start",
-        "AES-256, one key or block a call, 256 in encrypt_blocks, 24 steps in key wrap, eleven blocks in a packet; shorter is better")
+        "AES-256, but for shorter keys; one key or block a call, 256 in encrypt_blocks, 24 steps in key wrap, eleven blocks in a packet; shorter is better")
     for (i = 1; i <= makers["encrypt"]; i++) {
         n = count["encrypt", maker["encrypt", i]]
         if (kind(maker["encrypt", i]) == "aesni" && (least == "" || n < least)) least = n

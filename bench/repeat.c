@@ -11,6 +11,9 @@ static struct {
     uint8_t states[RECORD_BYTES], decryption_states[DECRYPTION_RECORD_BYTES];
     uint8_t blocks[BLOCK_BYTES * MOST_BLOCKS], outputs[BLOCK_BYTES * MOST_BLOCKS], offsets[MOST_BLOCKS], one_record[BYTE_OFFSETS];
     uint8_t key_data[KEY_DATA], wrapped[KEY_DATA + WRAP_EXTRA], unwrapped[KEY_DATA], rewrapped[KEY_DATA + WRAP_EXTRA];
+    struct {
+        uint8_t schedule[SCHEDULE_BYTES], cipher[BLOCK_BYTES];
+    } shorter[KEY_LENGTHS - 1];
     uint8_t pipes[PIPES_BYTES], packet[PACKET_BYTES], scrambled[PACKET_BYTES], unlisted[PACKET_BYTES], made[PACKET_BYTES];
 } work;
 
@@ -53,6 +56,11 @@ void start(const struct maker *maker)
         work.one_record[i] = (uint8_t)((OFFSET + i) % 16);
     library.expand_key(work.key, KEY_BYTES, work.schedule, SCHEDULE_BYTES);
     library.encrypt(work.schedule, SCHEDULE_BYTES, work.plain, BLOCK_BYTES, work.cipher, BLOCK_BYTES);
+    for (size_t i = 0; i < KEY_LENGTHS - 1; i++) {
+        const struct lengths *lengths = &lengths_of_keys[i];
+        library.expand_key(work.key, lengths->key, work.shorter[i].schedule, lengths->schedule);
+        library.encrypt(work.shorter[i].schedule, lengths->schedule, work.plain, BLOCK_BYTES, work.shorter[i].cipher, BLOCK_BYTES);
+    }
     memcpy(work.key_data, work.plain, BLOCK_BYTES);
     memcpy(work.key_data + BLOCK_BYTES, work.key, KEY_DATA - BLOCK_BYTES);
     library.wrap(work.schedule, SCHEDULE_BYTES, work.key_data, KEY_DATA, work.wrapped, sizeof work.wrapped);
@@ -117,6 +125,41 @@ static void repeat_masked(const struct engine *e, enum call call, long times)
     }
 }
 
+// The calls with a shorter key.
+static void repeat_shorter(const struct engine *e, enum call call, long times)
+{
+    size_t i = call == EXPAND_KEY_24 || call == ENCRYPT_24 || call == DECRYPT_24 || call >= ENCRYPT_PUBLISHED_24;
+    const struct lengths *lengths = &lengths_of_keys[i];
+    uint8_t *schedule = work.shorter[i].schedule, *cipher = work.shorter[i].cipher;
+    switch (call) {
+    case EXPAND_KEY_16:
+    case EXPAND_KEY_24:
+        while (times-- > 0)
+            e->expand_key(work.key, lengths->key, schedule, lengths->schedule);
+        break;
+    case ENCRYPT_16:
+    case ENCRYPT_24:
+        while (times-- > 0)
+            e->encrypt(schedule, lengths->schedule, work.plain, BLOCK_BYTES, work.output, BLOCK_BYTES);
+        break;
+    case DECRYPT_16:
+    case DECRYPT_24:
+        while (times-- > 0)
+            e->decrypt(schedule, lengths->schedule, cipher, BLOCK_BYTES, work.output, BLOCK_BYTES);
+        break;
+    case ENCRYPT_PUBLISHED_16:
+    case ENCRYPT_PUBLISHED_24:
+        while (times-- > 0)
+            e->encrypt_published(schedule, lengths->schedule, work.plain, BLOCK_BYTES, work.output, BLOCK_BYTES, work.one_record,
+                                 BYTE_OFFSETS, STEP, FORM);
+        break;
+    default:
+        while (times-- > 0)
+            e->decrypt_published(schedule, lengths->schedule, cipher, BLOCK_BYTES, work.output, BLOCK_BYTES, work.one_record,
+                                 BYTE_OFFSETS, STEP);
+    }
+}
+
 static void repeat_engine(const struct engine *e, enum call call, long times)
 {
     switch (call) {
@@ -170,24 +213,35 @@ static void repeat_engine(const struct engine *e, enum call call, long times)
             e->scramble(work.unlisted, PACKET_BYTES, work.made, PACKET_BYTES, work.pipes, PIPES_BYTES, false);
         break;
     default:
-        repeat_masked(e, call, times);
+        if (call >= EXPAND_KEY_16)
+            repeat_shorter(e, call, times);
+        else
+            repeat_masked(e, call, times);
     }
 }
 
 static void repeat_peer(const struct peer *peer, enum call call, long times)
 {
+    // Which length the key has; the calls with a shorter one come in the order of the first three.
+    size_t i = KEY_LENGTHS - 1;
+    const uint8_t *cipher = work.cipher;
+    if (call >= EXPAND_KEY_16) {
+        i = (call - EXPAND_KEY_16) / 3;
+        cipher = work.shorter[i].cipher;
+        call = (enum call)((call - EXPAND_KEY_16) % 3);
+    }
     switch (call) {
     case EXPAND_KEY:
         while (times-- > 0)
-            peer->expand_key(work.key);
+            peer->expand_key[i](work.key);
         break;
     case ENCRYPT:
         while (times-- > 0)
-            peer->encrypt(work.plain, work.output);
+            peer->encrypt[i](work.plain, work.output);
         break;
     case DECRYPT:
         while (times-- > 0)
-            peer->decrypt(work.cipher, work.output);
+            peer->decrypt[i](cipher, work.output);
         break;
     case WRAP:
         while (times-- > 0)

@@ -8,7 +8,25 @@
 
 #include "tables.h"
 
-enum { BLOCK = 16, SCHEDULE = 240, ROUNDS = 14, STATES = 71, DECRYPTION_STATES = 85 };
+// The schedule is that of a 32-byte key, the longest.
+enum { BLOCK = 16, SCHEDULE = 240 };
+
+// How many rounds a schedule is for, which has a round key for each and one more, and 0 where no key has such a schedule.
+static inline size_t rounds_of(size_t schedule_length)
+{
+    return schedule_length == 176 || schedule_length == 208 || schedule_length == SCHEDULE ? schedule_length / BLOCK - 1 : 0;
+}
+
+// How long the record of so many rounds is, and that of a decryption.
+static inline size_t record_length(size_t rounds)
+{
+    return BLOCK * (5 * rounds + 1);
+}
+
+static inline size_t decryption_record_length(size_t rounds)
+{
+    return BLOCK * (6 * rounds + 1);
+}
 
 static inline void add(uint8_t state[BLOCK], const uint8_t other[BLOCK])
 {

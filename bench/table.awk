@@ -92,12 +92,12 @@ END {
     print ""
     print "Beside other libraries"
     print ""
-    printf "%-20s %-31s %8s %8s %7s %9s %8s\n", "call", "by", "ns", "ours/it", "spread", "instr.", "ours/it"
+    printf "%-24s %-31s %8s %8s %7s %9s %8s\n", "call", "by", "ns", "ours/it", "spread", "instr.", "ours/it"
     for (i = 1; i <= calls; i++) {
         n = call[i]
         for (k = 1; k <= peers[n]; k++) {
             p = peer[n, k]
-            printf "%-20s %-31s %8s %8s %7s %9s %8s\n", n, p, nanoseconds(time[n, p]), ratio(own[n, p], time[n, p]),
+            printf "%-24s %-31s %8s %8s %7s %9s %8s\n", n, p, nanoseconds(time[n, p]), ratio(own[n, p], time[n, p]),
                 percent(spread[n, p]), grouped(count[n, p]), ratio(count[n, ours], count[n, p])
         }
         left -= peers[n]

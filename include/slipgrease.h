@@ -1,7 +1,7 @@
 /*
- * Slipgrease: AES-256 by a plain engine, for the rack, and by a masked engine, for the module; key wrap over either, and a packet
- * scrambler over the plain one. All of it is in one archive, libslipgrease.a, whose code is proved to do what is said here. This
- * header is the manual of its C names.
+ * Slipgrease: AES with keys of 16, 24 and 32 bytes by a plain engine, for the rack, and by a masked engine, for the module; with
+ * 32-byte keys also key wrap over either, and a packet scrambler over the plain one. All of it is in one archive, libslipgrease.a,
+ * whose code is proved to do what is said here. This header is the manual of its C names.
  *
  *     cc pipe.c $(pkg-config --cflags --libs slipgrease)
  *
@@ -35,15 +35,15 @@
  *   The code is not constant-time: boxes are read at places that depend on the covered state, and by the plain engine at places
  *   that depend on the state itself.
  *   Nothing is wiped: a call leaves its working values on the stack, and so does an unwrapping that is refused.
- *   Key wrap and CBC within a packet are the only modes of operation. There is no other key length, and no offset is drawn: that is
- *   left to the caller.
+ *   Key wrap and CBC within a packet are the only modes of operation, and take no schedules but those of 32-byte keys. No offset is
+ *   drawn: that is left to the caller.
  *
  * Stack
  *   Each call says how much stack it takes at most, whatever it is given, its return address included. The figures are not proved,
  *   but worked out from the compiled code by a program (tools/stack of the sources) and compared with what is measured.
  *   Not counted are arguments that are passed on the stack, those from the seventh on (8 bytes each, rounded up to a multiple of
  *   16), and what memcpy and memset of the C library take. Where the dynamic linker binds these two lazily, the first call of each
- *   takes some 3 KB more, which depends on the processor: for slipgrease_expand_key 3,688 bytes were measured in place of 536. With
+ *   takes some 3 KB more, which depends on the processor: for slipgrease_expand_key 3,696 bytes were measured in place of 568. With
  *   -z now or static linking it takes no more than later ones.
  */
 #ifndef SLIPGREASE_H
@@ -82,14 +82,14 @@ extern "C" {
  * refusals, whose names stand there without SLIPGREASE_REPLY_. Where several apply, the first in that list is given.
  */
 #define SLIPGREASE_REPLY_DONE 0             /* done */
-#define SLIPGREASE_REPLY_KEY_LENGTH 1       /* the key is not 32 bytes */
-#define SLIPGREASE_REPLY_SCHEDULE_LENGTH 2  /* the schedule, or the buffer for it, is not 240 bytes */
+#define SLIPGREASE_REPLY_KEY_LENGTH 1       /* the key is not 16, 24 or 32 bytes */
+#define SLIPGREASE_REPLY_SCHEDULE_LENGTH 2  /* the schedule is not 176, 208 or 240 bytes, as the key asks; in key wrap, not 240 */
 #define SLIPGREASE_REPLY_INPUT_LENGTH 3     /* the input is not 16 bytes; of many blocks, not 16 for each of 256 at most */
 #define SLIPGREASE_REPLY_OUTPUT_LENGTH 4    /* the buffer for the output is not 16 bytes; for many blocks, not as long as the input */
 #define SLIPGREASE_REPLY_MASKS_LENGTH 5     /* the mask table, or the buffer for it, is not 16 bytes */
 #define SLIPGREASE_REPLY_OFFSET_RANGE 6     /* an offset is above 15 */
 #define SLIPGREASE_REPLY_FORM_UNKNOWN 7     /* the form is not 0 */
-#define SLIPGREASE_REPLY_RECORD_LENGTH 8    /* the buffer for the record is not 1,136 bytes; for a decryption's, not 1,360 */
+#define SLIPGREASE_REPLY_RECORD_LENGTH 8    /* the buffer for the record is not 16 bytes for each state */
 #define SLIPGREASE_REPLY_NO_LOGARITHM 9     /* 00 has no logarithm */
 #define SLIPGREASE_REPLY_POWER_RANGE 10     /* the power is above 254 */
 #define SLIPGREASE_REPLY_SHEET_LENGTH 11    /* the sheet, or the buffer for it, is not 21 bytes in version 1, 22 in version 2 */
@@ -107,7 +107,7 @@ extern "C" {
 #define SLIPGREASE_REPLY_BITS_WRONG 23      /* the scrambling bits do not allow what is to be done */
 #define SLIPGREASE_REPLY_OFFSET_PER_BYTE 24 /* there are not 16 offsets, one for each byte of the block */
 
-/* The lengths that the calls take. */
+/* The lengths that the calls take. Those of a key, a schedule and records are the greatest, which go with a 32-byte key. */
 #define SLIPGREASE_KEY_BYTES 32
 #define SLIPGREASE_SCHEDULE_BYTES 240
 #define SLIPGREASE_BLOCK_BYTES 16
@@ -133,9 +133,24 @@ extern "C" {
 #define SLIPGREASE_PIPE_BYTES 498
 #define SLIPGREASE_PIPES_BYTES 3486
 
-/* How many states, each as long as a block, the record of an encryption has, and that of a decryption. */
+/* How many states, each as long as a block, the record of an encryption has at most, and that of a decryption. */
 #define SLIPGREASE_STATES 71
 #define SLIPGREASE_DECRYPTION_STATES 85
+
+/*
+ * What goes together. The macros tell it of a key's length, and of a schedule's; of other lengths than these they tell nothing.
+ *
+ *     key       schedule     rounds    record of an encryption    of a decryption
+ *     16        176          10        51 states, 816 bytes       61 states, 976 bytes
+ *     24        208          12        61 states, 976 bytes       73 states, 1,168 bytes
+ *     32        240          14        71 states, 1,136 bytes     85 states, 1,360 bytes
+ */
+#define SLIPGREASE_SCHEDULE_BYTES_OF(key_len) (4 * (key_len) + 112)
+#define SLIPGREASE_ROUNDS_OF(schedule_len) ((schedule_len) / 16 - 1)
+#define SLIPGREASE_STATES_OF(schedule_len) (5 * SLIPGREASE_ROUNDS_OF(schedule_len) + 1)
+#define SLIPGREASE_RECORD_BYTES_OF(schedule_len) (16 * SLIPGREASE_STATES_OF(schedule_len))
+#define SLIPGREASE_DECRYPTION_STATES_OF(schedule_len) (6 * SLIPGREASE_ROUNDS_OF(schedule_len) + 1)
+#define SLIPGREASE_DECRYPTION_RECORD_BYTES_OF(schedule_len) (16 * SLIPGREASE_DECRYPTION_STATES_OF(schedule_len))
 
 /* The form of a masked run's output: the standard block, and no mask on it. It is the only one. */
 #define SLIPGREASE_FORM_STANDARD 0
@@ -156,20 +171,22 @@ extern "C" {
 /* ---- The rack's engine ---- */
 
 /*
- * Expands a key: KEYEXPANSION of FIPS 197 for AES-256. Round key k is at byte 16 * k of the schedule.
- * Reads key, 32 bytes. Writes schedule_out, 240 bytes.
+ * Expands a key: KEYEXPANSION of FIPS 197, for AES-128, AES-192 or AES-256 as the key is long. Round key k is at byte 16 * k of the
+ * schedule, which must have the length that goes with the key's, SLIPGREASE_SCHEDULE_BYTES_OF(key_len).
+ * Reads key, 16, 24 or 32 bytes. Writes schedule_out, 176, 208 or 240 bytes.
  * Refusals: 1 KEY_LENGTH, 2 SCHEDULE_LENGTH.
- * Stack: 536 bytes.
+ * Stack: 568 bytes.
  */
 uint8_t slipgrease_expand_key(
     const uint8_t *key, size_t key_len,
     uint8_t *schedule_out, size_t schedule_len) SLIPGREASE_CHECKED;
 
 /*
- * Encrypts one block: CIPHER of FIPS 197, fourteen rounds. Any 240 bytes are taken as a schedule.
- * Reads schedule, 240 bytes, and input, 16 bytes. Writes output_out, 16 bytes.
+ * Encrypts one block: CIPHER of FIPS 197, with the 10, 12 or 14 rounds that go with the schedule's length. Any bytes of that length
+ * are taken as a schedule.
+ * Reads schedule, 176, 208 or 240 bytes, and input, 16 bytes. Writes output_out, 16 bytes.
  * Refusals: 2 SCHEDULE_LENGTH, 3 INPUT_LENGTH, 4 OUTPUT_LENGTH.
- * Stack: 424 bytes.
+ * Stack: 432 bytes.
  */
 uint8_t slipgrease_encrypt(
     const uint8_t *schedule, size_t schedule_len,
@@ -177,11 +194,11 @@ uint8_t slipgrease_encrypt(
     uint8_t *output_out, size_t output_len) SLIPGREASE_CHECKED;
 
 /*
- * Decrypts one block: INVCIPHER of FIPS 197, fourteen rounds. It undoes slipgrease_encrypt with the same schedule, whichever
- * 240 bytes that is, and is undone by it.
- * Reads schedule, 240 bytes, and input, 16 bytes. Writes output_out, 16 bytes.
+ * Decrypts one block: INVCIPHER of FIPS 197, with as many rounds. It undoes slipgrease_encrypt with the same schedule, whichever
+ * bytes that is, and is undone by it.
+ * Reads schedule, 176, 208 or 240 bytes, and input, 16 bytes. Writes output_out, 16 bytes.
  * Refusals: 2 SCHEDULE_LENGTH, 3 INPUT_LENGTH, 4 OUTPUT_LENGTH.
- * Stack: 424 bytes.
+ * Stack: 432 bytes.
  */
 uint8_t slipgrease_decrypt(
     const uint8_t *schedule, size_t schedule_len,
@@ -189,23 +206,24 @@ uint8_t slipgrease_decrypt(
     uint8_t *output_out, size_t output_len) SLIPGREASE_CHECKED;
 
 /*
- * Encrypts one block and records the state at each of 71 points. State s is at byte 16 * s of the record.
+ * Encrypts one block with N rounds, and records the state at each of 5N + 1 points. State s is at byte 16 * s of the record.
  *
- *     state                    plain: the state of CIPHER          masked: the plain state, xored with
- *     0                        at the beginning: the block         Mask(o)
- *     5r + 1    r = 0 .. 13    after round key r                   Mask(o+dr)
- *     5r + 2    r = 0 .. 13    after the S-boxes                   Mask(o+d(r+1))
- *     5r + 3    r = 0 .. 13    after ShiftRows                     ShiftRows(Mask(o+d(r+1)))
- *     5r + 4    r = 0 .. 12    after MixColumns                    MixColumns(ShiftRows(Mask(o+d(r+1))))
- *     5r + 5    r = 0 .. 12    the same (after compensation)       Mask(o+d(r+1))
- *     69                       after round key 14                  ShiftRows(Mask(o+14d))
- *     70                       the same: what encrypt writes       nothing
+ *     state                     plain: the state of CIPHER          masked: the plain state, xored with
+ *     0                         at the beginning: the block         Mask(o)
+ *     5r + 1    r = 0 .. N-1    after round key r                   Mask(o+dr)
+ *     5r + 2    r = 0 .. N-1    after the S-boxes                   Mask(o+d(r+1))
+ *     5r + 3    r = 0 .. N-1    after ShiftRows                     ShiftRows(Mask(o+d(r+1)))
+ *     5r + 4    r = 0 .. N-2    after MixColumns                    MixColumns(ShiftRows(Mask(o+d(r+1))))
+ *     5r + 5    r = 0 .. N-2    the same (after compensation)       Mask(o+d(r+1))
+ *     5N - 1                    after round key N                   ShiftRows(Mask(o+dN))
+ *     5N                        the same: what encrypt writes       nothing
  *
  * The last column is that of slipgrease_record_masked, at the offsets o with step d. No separate output block is written.
- * A record gives the key away: state 0 xor state 1 is round key 0, and state 5 xor state 6 is round key 1; these two are the key.
- * Reads schedule, 240 bytes, and input, 16 bytes. Writes record_out, 1,136 bytes.
+ * A record gives the key away: state 0 xor state 1 is round key 0, and state 5 xor state 6 is round key 1; these two begin with the
+ * key.
+ * Reads schedule, 176, 208 or 240 bytes, and input, 16 bytes. Writes record_out, 16 bytes a state.
  * Refusals: 2 SCHEDULE_LENGTH, 3 INPUT_LENGTH, 8 RECORD_LENGTH.
- * Stack: 360 bytes.
+ * Stack: 376 bytes.
  */
 uint8_t slipgrease_record_plain(
     const uint8_t *schedule, size_t schedule_len,
@@ -243,7 +261,7 @@ static inline void slipgrease_one_offset(uint8_t record[SLIPGREASE_BYTE_OFFSETS]
 
 /*
  * Encrypts one block under the published masks, with step 1 by stored boxes; those of another step are worked out first.
- * Reads schedule, 240 bytes, input, 16 bytes, and offsets, 16 bytes. Writes output_out, 16 bytes.
+ * Reads schedule, 176, 208 or 240 bytes, input, 16 bytes, and offsets, 16 bytes. Writes output_out, 16 bytes.
  * Refusals: 2 SCHEDULE_LENGTH, 3 INPUT_LENGTH, 4 OUTPUT_LENGTH, 24 OFFSET_PER_BYTE, 6 OFFSET_RANGE, 15 STEP_WRONG, 7 FORM_UNKNOWN.
  * Stack: 9,288 bytes, and 5,688 with step 1.
  */
@@ -258,9 +276,9 @@ uint8_t slipgrease_encrypt_published(
  * Encrypts up to SLIPGREASE_BLOCKS_MAX blocks under the published masks, with one step: one after the other, each as
  * slipgrease_encrypt_published would. Block k is at byte 16 * k of input and output, and its offset is byte k of offsets. If one
  * offset is wrong, all blocks are refused. With no blocks at all the call is done, and nothing is written.
- * Reads schedule, 240 bytes, input, 16 bytes a block, and offsets, 1 byte a block. Writes output_out, 16 bytes a block.
+ * Reads schedule, 176, 208 or 240 bytes, input, 16 bytes a block, and offsets, 1 byte a block. Writes output_out, 16 bytes a block.
  * Refusals: 2 SCHEDULE_LENGTH, 3 INPUT_LENGTH, 4 OUTPUT_LENGTH, 14 OFFSETS_LENGTH, 6 OFFSET_RANGE, 15 STEP_WRONG, 7 FORM_UNKNOWN.
- * Stack: 9,768 bytes, and 5,480 with step 1.
+ * Stack: 9,768 bytes, and 5,496 with step 1.
  */
 uint8_t slipgrease_encrypt_blocks(
     const uint8_t *schedule, size_t schedule_len,
@@ -271,7 +289,7 @@ uint8_t slipgrease_encrypt_blocks(
 
 /*
  * Encrypts one block under any sixteen masks, fit or not; their boxes are worked out first.
- * Reads schedule, 240 bytes, input, 16 bytes, masks, 16 bytes, and offsets, 16 bytes. Writes output_out, 16 bytes.
+ * Reads schedule, 176, 208 or 240 bytes, input, 16 bytes, masks, 16 bytes, and offsets, 16 bytes. Writes output_out, 16 bytes.
  * Refusals: 2 SCHEDULE_LENGTH, 3 INPUT_LENGTH, 4 OUTPUT_LENGTH, 5 MASKS_LENGTH, 24 OFFSET_PER_BYTE, 6 OFFSET_RANGE, 15 STEP_WRONG, 7 FORM_UNKNOWN.
  * Stack: 9,240 bytes.
  */
@@ -284,11 +302,11 @@ uint8_t slipgrease_encrypt_masked(
     uint8_t step, uint8_t form) SLIPGREASE_CHECKED;
 
 /*
- * Encrypts one block under any sixteen masks, and records the state at each of the 71 points of slipgrease_record_plain. Each is
+ * Encrypts one block under any sixteen masks, and records the state at each of the points of slipgrease_record_plain. Each is
  * the plain state under the mask that the table there names. No separate output block is written.
  * The masks do not keep this record from giving the key away, since state 0 and state 1 lie under the same mask, and so do
  * state 5 and state 6: here too, each pair xored is a round key, 0 and 1.
- * Reads schedule, 240 bytes, input, 16 bytes, masks, 16 bytes, and offsets, 16 bytes. Writes record_out, 1,136 bytes.
+ * Reads schedule, 176, 208 or 240 bytes, input, 16 bytes, masks, 16 bytes, and offsets, 16 bytes. Writes record_out, 16 bytes a state.
  * Refusals: 2 SCHEDULE_LENGTH, 3 INPUT_LENGTH, 5 MASKS_LENGTH, 24 OFFSET_PER_BYTE, 6 OFFSET_RANGE, 15 STEP_WRONG, 8 RECORD_LENGTH.
  * Stack: 9,896 bytes.
  */
@@ -302,7 +320,7 @@ uint8_t slipgrease_record_masked(
 
 /*
  * Decrypts one block under the published masks, with step 1 by stored boxes; those of another step are worked out first.
- * Reads schedule, 240 bytes, input, 16 bytes, and offsets, 16 bytes. Writes output_out, 16 bytes.
+ * Reads schedule, 176, 208 or 240 bytes, input, 16 bytes, and offsets, 16 bytes. Writes output_out, 16 bytes.
  * Refusals: 2 SCHEDULE_LENGTH, 3 INPUT_LENGTH, 4 OUTPUT_LENGTH, 24 OFFSET_PER_BYTE, 6 OFFSET_RANGE, 15 STEP_WRONG.
  * Stack: 9,544 bytes, and 6,016 with step 1.
  */
@@ -315,7 +333,7 @@ uint8_t slipgrease_decrypt_published(
 
 /*
  * Decrypts one block under any sixteen masks, fit or not; their boxes are worked out first.
- * Reads schedule, 240 bytes, input, 16 bytes, masks, 16 bytes, and offsets, 16 bytes. Writes output_out, 16 bytes.
+ * Reads schedule, 176, 208 or 240 bytes, input, 16 bytes, masks, 16 bytes, and offsets, 16 bytes. Writes output_out, 16 bytes.
  * Refusals: 2 SCHEDULE_LENGTH, 3 INPUT_LENGTH, 4 OUTPUT_LENGTH, 5 MASKS_LENGTH, 24 OFFSET_PER_BYTE, 6 OFFSET_RANGE, 15 STEP_WRONG.
  * Stack: 9,496 bytes.
  */
@@ -328,23 +346,24 @@ uint8_t slipgrease_decrypt_masked(
     uint8_t step) SLIPGREASE_CHECKED;
 
 /*
- * Decrypts one block under any sixteen masks, and records the state at each of 85 points. State s is at byte 16 * s of the record.
+ * Decrypts one block with N rounds under any sixteen masks, and records the state at each of 6N + 1 points. State s is at byte
+ * 16 * s of the record.
  *
- *     state                    the plain state of INVCIPHER        xored with (offsets o, step d)
- *     0                        at the beginning: the block         Mask(o)
- *     1                        after round key 14                  Mask(o)
- *     6r + 2    r = 0 .. 13    after InvShiftRows                  InvShiftRows(Mask(o+dr))
- *     6r + 3    r = 0 .. 13    the same (after correction)         Mask(o+dr)
- *     6r + 4    r = 0 .. 13    after the inverse S-boxes           Mask(o+d(r+1))
- *     6r + 5    r = 0 .. 13    after round key 13-r                Mask(o+d(r+1))
- *     6r + 6    r = 0 .. 12    after InvMixColumns                 InvMixColumns(Mask(o+d(r+1)))
- *     6r + 7    r = 0 .. 12    the same (after restoration)        Mask(o+d(r+1))
- *     84                       the same: what decrypt writes       nothing
+ *     state                     the plain state of INVCIPHER        xored with (offsets o, step d)
+ *     0                         at the beginning: the block         Mask(o)
+ *     1                         after round key N                   Mask(o)
+ *     6r + 2    r = 0 .. N-1    after InvShiftRows                  InvShiftRows(Mask(o+dr))
+ *     6r + 3    r = 0 .. N-1    the same (after correction)         Mask(o+dr)
+ *     6r + 4    r = 0 .. N-1    after the inverse S-boxes           Mask(o+d(r+1))
+ *     6r + 5    r = 0 .. N-1    after round key N-1-r               Mask(o+d(r+1))
+ *     6r + 6    r = 0 .. N-2    after InvMixColumns                 InvMixColumns(Mask(o+d(r+1)))
+ *     6r + 7    r = 0 .. N-2    the same (after restoration)        Mask(o+d(r+1))
+ *     6N                        the same: what decrypt writes       nothing
  *
  * With sixteen masks 00 these are the plain states. No separate output block is written.
- * This record gives the key away too, covered or not: state 0 xor state 1 is round key 14, and state 4 xor state 5 is round key 13,
+ * This record gives the key away too, covered or not: state 0 xor state 1 is round key N, and state 4 xor state 5 is round key N-1,
  * from which all others follow.
- * Reads schedule, 240 bytes, input, 16 bytes, masks, 16 bytes, and offsets, 16 bytes. Writes record_out, 1,360 bytes.
+ * Reads schedule, 176, 208 or 240 bytes, input, 16 bytes, masks, 16 bytes, and offsets, 16 bytes. Writes record_out, 16 bytes a state.
  * Refusals: 2 SCHEDULE_LENGTH, 3 INPUT_LENGTH, 5 MASKS_LENGTH, 24 OFFSET_PER_BYTE, 6 OFFSET_RANGE, 15 STEP_WRONG, 8 RECORD_LENGTH.
  * Stack: 10,184 bytes.
  */
@@ -382,9 +401,9 @@ uint8_t slipgrease_write_sheet(
 /* ---- Key wrap ---- */
 
 /*
- * Key wrap of RFC 3394 with AES-256 seals key data, which is usually a key itself, with the schedule of a wrapping key. The result
- * is 8 bytes longer. These hold the RFC's register, which begins as the initial value, a6 eight times (2.2.3.1); unwrapping must
- * recover that value, and so detects a change. Key data has 16 to 256 bytes, a multiple of 8.
+ * Key wrap of RFC 3394 with AES-256 seals key data, which is usually a key itself, with the schedule of a 32-byte wrapping key; those
+ * of shorter keys are refused. The result is 8 bytes longer. These hold the RFC's register, which begins as the initial value, a6
+ * eight times (2.2.3.1); unwrapping must recover that value, and so detects a change. Key data has 16 to 256 bytes, a multiple of 8.
  * The two masked calls encrypt and decrypt by the module's engine: with the published masks, step 1 and one offset for the whole
  * call. At every offset they write the same bytes as the other two, so either engine unwraps what the other has wrapped.
  */
@@ -393,7 +412,7 @@ uint8_t slipgrease_write_sheet(
  * Wraps key data: 2.2.1 of the RFC.
  * Reads schedule, 240 bytes, and key_data, 16, 24 .. 256 bytes. Writes wrapped_out, 8 bytes more than key_data.
  * Refusals: 2 SCHEDULE_LENGTH, 16 KEY_DATA_LENGTH, 17 WRAPPED_LENGTH.
- * Stack: 584 bytes.
+ * Stack: 592 bytes.
  */
 uint8_t slipgrease_wrap(
     const uint8_t *schedule, size_t schedule_len,
@@ -406,7 +425,7 @@ uint8_t slipgrease_wrap(
  * data was changed, or was wrapped under another key. Then no byte of key_data_out has changed.
  * Reads schedule, 240 bytes, and wrapped, 8 bytes more than key_data. Writes key_data_out, 16, 24 .. 256 bytes.
  * Refusals: 2 SCHEDULE_LENGTH, 16 KEY_DATA_LENGTH, 17 WRAPPED_LENGTH, 18 INTEGRITY.
- * Stack: 856 bytes.
+ * Stack: 864 bytes.
  */
 uint8_t slipgrease_unwrap(
     const uint8_t *schedule, size_t schedule_len,
@@ -449,7 +468,7 @@ uint8_t slipgrease_unwrap_masked(
  *
  * The list of pipes has SLIPGREASE_PIPES entries of SLIPGREASE_PIPE_BYTES each, which hold from their beginning on:
  *     0        the PID, two bytes, the higher first: 0010 to 1ffe, and none twice
- *     2        the even schedule, as slipgrease_expand_key writes it
+ *     2        the even schedule, as slipgrease_expand_key writes it of a 32-byte key
  *     242      the odd schedule
  *     482      the starting block, 16 bytes
  *
@@ -465,7 +484,7 @@ uint8_t slipgrease_unwrap_masked(
  * field is not 183 under code 10, or above 182 under code 11; the scrambling bits are not 00.
  * Reads packet, 188 bytes, and pipes, 3,486 bytes. Writes packet_out, 188 bytes.
  * Refusals: 19 PACKET_LENGTH, 20 SYNC_LOST, 22 PIPES_WRONG, 21 FIELD_WRONG, 23 BITS_WRONG.
- * Stack: 744 bytes.
+ * Stack: 752 bytes.
  */
 uint8_t slipgrease_scramble(
     const uint8_t *packet, size_t packet_len,
@@ -479,7 +498,7 @@ uint8_t slipgrease_scramble(
  * took. FIELD_WRONG is as there; BITS_WRONG is for bits 01, and for 10 or 11 with a payload shorter than 16 bytes, or with none.
  * Reads packet, 188 bytes, and pipes, 3,486 bytes. Writes packet_out, 188 bytes.
  * Refusals: 19 PACKET_LENGTH, 20 SYNC_LOST, 22 PIPES_WRONG, 21 FIELD_WRONG, 23 BITS_WRONG.
- * Stack: 744 bytes.
+ * Stack: 752 bytes.
  */
 uint8_t slipgrease_descramble(
     const uint8_t *packet, size_t packet_len,
@@ -515,8 +534,8 @@ uint16_t slipgrease_mask_count(
     uint8_t pattern) SLIPGREASE_CHECKED;
 
 /*
- * Converts what an early module stored in form 1, with the published masks and step 1: xors it with Mask(o+14), which gives the
- * standard block. Of a standard block it makes what was stored, so doing it twice gives the input back.
+ * Converts what an early module stored in form 1, with a 32-byte key, the published masks and step 1: xors it with Mask(o+14), which
+ * gives the standard block. Of a standard block it makes what was stored, so doing it twice gives the input back.
  * Reads input, 16 bytes. Writes output_out, 16 bytes.
  * Refusals: 3 INPUT_LENGTH, 4 OUTPUT_LENGTH, 6 OFFSET_RANGE.
  * Stack: 104 bytes.

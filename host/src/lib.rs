@@ -1,5 +1,5 @@
-//! AES-256 block by block, plain and masked, and key wrap and a packet scrambler over it, by a library in which every call is
-//! proved to meet its promise.
+//! AES block by block, plain and masked, with keys of 16, 24 and 32 bytes, and key wrap and a packet scrambler over it, by a library
+//! in which every call is proved to meet its promise.
 //!
 //! The library is `libslipgrease.a`, written in Rattle; this crate is its face for Rust. Whatever a call is lent, it ends, and
 //! gives the one answer that its promise names: wrong lengths, offsets, steps, forms and lists of pipes are refused, and so are
@@ -8,13 +8,14 @@
 //!
 //! There are two ways to call it. The functions of this page take slices of any length and hand them on as they are. The types
 //! [`Schedule`], [`Masks`], [`Offset`], [`Offsets`], [`Step`] and [`Pipes`] hold only what the library takes, so that their calls
-//! cannot be refused, except for those that wrap keys, whose lengths vary, and those over packets, which are as they come:
+//! cannot be refused, except for those that wrap keys, whose lengths vary, and those over packets, which are as they come; both take
+//! the schedules of 32-byte keys alone:
 //!
 //! ```
 //! use slipgrease::{Offset, Schedule, Step};
 //!
 //! // FIPS 197, C.3.
-//! let key = std::array::from_fn(|i| i as u8);
+//! let key: [u8; 32] = std::array::from_fn(|i| i as u8);
 //! let block = std::array::from_fn(|i| 0x11 * i as u8);
 //! let schedule = Schedule::expand(&key);
 //!
@@ -28,6 +29,8 @@
 //!     assert_eq!(schedule.decrypt_published(&at_the_rack, offset, Step::ONE), block);
 //! }
 //! ```
+//!
+//! A [`Schedule`] is that of AES-128, AES-192 or AES-256, by the length of its key, and every run with it has its [`Rounds`].
 //!
 //! [`Pipes`] scrambles and descrambles transport packets of 188 bytes for seven pipes, one by one, or as a stream that comes in
 //! pieces of any length: [`Stream`] gives each packet to a function, and [`PacketWriter`] writes them.
@@ -47,6 +50,7 @@
 
 #[allow(unsafe_code)]
 pub mod calls;
+mod key;
 mod masks;
 mod offsets;
 mod packets;
@@ -59,6 +63,7 @@ mod text;
 mod wiped;
 mod wrap;
 
+pub use crate::key::{Key, RoundKeys, Rounds};
 pub use crate::masks::{Masks, Offset, Step};
 pub use crate::offsets::Offsets;
 pub use crate::packets::{Packet, PacketWriter, Parity, Pipe, Pipes, RefusedPacket, Stream, Way};

@@ -42,9 +42,9 @@ pub enum Way {
 pub struct Pipe {
     /// The PID of its packets. A list takes 0010 to 1ffe.
     pub pid: u16,
-    /// The schedule for scrambling bits 10.
+    /// The schedule for scrambling bits 10. A list takes that of a 32-byte key.
     pub even: Schedule,
-    /// The schedule for scrambling bits 11.
+    /// The schedule for scrambling bits 11, likewise.
     pub odd: Schedule,
     /// What the first block of every packet is chained to.
     pub start: Block,
@@ -77,9 +77,6 @@ pub struct Pipe {
 #[derive(Clone, PartialEq, Eq)]
 pub struct Pipes(Wiped);
 
-/// How many bytes a list has for each pipe.
-const PIPE: usize = 498;
-
 /// The PID 1fff is in no list, so that of the library's checks a call with this packet meets only the list's.
 const NULL_PACKET: Packet = {
     let mut packet = [0xff; LENGTH];
@@ -92,15 +89,14 @@ const NULL_PACKET: Packet = {
 impl Pipes {
     /// The list of seven pipes.
     ///
-    /// Refused: a PID outside 0010 to 1ffe, or the same PID twice.
+    /// Refused: the schedule of a key under 32 bytes, with which the list is too short, a PID outside 0010 to 1ffe, or the same PID
+    /// twice.
     pub fn new(pipes: &[Pipe; 7]) -> Result<Pipes, Refusal> {
-        let mut bytes = Wiped::zeros(PIPE * pipes.len());
-        for (place, Pipe { pid, even, odd, start }) in bytes.chunks_exact_mut(PIPE).zip(pipes) {
-            place[..2].copy_from_slice(&pid.to_be_bytes());
-            place[2..242].copy_from_slice(even.as_bytes());
-            place[242..482].copy_from_slice(odd.as_bytes());
-            place[482..].copy_from_slice(start);
-        }
+        let pids: Vec<[u8; 2]> = pipes.iter().map(|pipe| pipe.pid.to_be_bytes()).collect();
+        let parts =
+            pids.iter().zip(pipes).flat_map(|(pid, pipe)| [&pid[..], pipe.even.as_bytes(), pipe.odd.as_bytes(), &pipe.start]);
+        let mut bytes = Wiped::zeros(parts.clone().map(<[u8]>::len).sum());
+        bytes.iter_mut().zip(parts.flatten()).for_each(|(place, byte)| *place = *byte);
         Pipes::judged(bytes)
     }
 

@@ -12,15 +12,15 @@ use std::fmt;
 /// assert_eq!(refusal, Refusal::KeyLength);
 /// assert_eq!((refusal.number(), refusal.name()), (1, "KEY_LENGTH"));
 /// assert_eq!(refusal.fault(), Some(Fault::Caller));
-/// assert_eq!(refusal.to_string(), "the key is not 32 bytes long (reply 1, KEY_LENGTH)");
+/// assert_eq!(refusal.to_string(), "the key is not 16, 24 or 32 bytes long (reply 1, KEY_LENGTH)");
 /// ```
 #[derive(Clone, Copy, Debug, PartialEq, Eq, PartialOrd, Ord, Hash)]
 #[non_exhaustive]
 #[must_use = "a refused call has written nothing"]
 pub enum Refusal {
-    /// The key is not 32 bytes long.
+    /// The key is not 16, 24 or 32 bytes long.
     KeyLength = 1,
-    /// The schedule is not 240 bytes long.
+    /// The schedule is not 176, 208 or 240 bytes long; the buffer for one, not as long as its key asks; in key wrap, not 240.
     ScheduleLength = 2,
     /// The input is not 16 bytes long; of many blocks, not 16 for each of 256 at most.
     InputLength = 3,
@@ -32,7 +32,7 @@ pub enum Refusal {
     OffsetRange = 6,
     /// The form is not 0.
     FormUnknown = 7,
-    /// The record is not 1,136 bytes long; of a decryption, not 1,360.
+    /// The record is not 16 bytes long for each state.
     RecordLength = 8,
     /// 00 has no logarithm.
     NoLogarithm = 9,
@@ -70,14 +70,18 @@ pub enum Refusal {
 
 /// The name and the meaning of each, in the order of their numbers.
 const REFUSALS: [(Refusal, &str, &str); 24] = [
-    (Refusal::KeyLength, "KEY_LENGTH", "the key is not 32 bytes long"),
-    (Refusal::ScheduleLength, "SCHEDULE_LENGTH", "the schedule is not 240 bytes long"),
+    (Refusal::KeyLength, "KEY_LENGTH", "the key is not 16, 24 or 32 bytes long"),
+    (
+        Refusal::ScheduleLength,
+        "SCHEDULE_LENGTH",
+        "the schedule is not 176, 208 or 240 bytes long; the buffer for one, not as long as its key asks; in key wrap, not 240",
+    ),
     (Refusal::InputLength, "INPUT_LENGTH", "the input is not 16 bytes long; of many blocks, not 16 for each of 256 at most"),
     (Refusal::OutputLength, "OUTPUT_LENGTH", "the output is not 16 bytes long; of many blocks, not as long as the input"),
     (Refusal::MasksLength, "MASKS_LENGTH", "the mask table is not 16 bytes long"),
     (Refusal::OffsetRange, "OFFSET_RANGE", "an offset is above 15"),
     (Refusal::FormUnknown, "FORM_UNKNOWN", "the form is not 0"),
-    (Refusal::RecordLength, "RECORD_LENGTH", "the record is not 1,136 bytes long; of a decryption, not 1,360"),
+    (Refusal::RecordLength, "RECORD_LENGTH", "the record is not 16 bytes long for each state"),
     (Refusal::NoLogarithm, "NO_LOGARITHM", "00 has no logarithm"),
     (Refusal::PowerRange, "POWER_RANGE", "the power is above 254"),
     (Refusal::SheetLength, "SHEET_LENGTH", "the sheet is not 21 bytes long; in version 2, not 22"),

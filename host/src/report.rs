@@ -30,7 +30,7 @@ pub enum Row {
     MixColumns = 5,
     /// After the compensation.
     Compensation = 6,
-    /// After the last round key, key 14.
+    /// After the last round key.
     LastKey = 7,
 }
 

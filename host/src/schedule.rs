@@ -1,6 +1,7 @@
 //! A key schedule, and the runs with it that cannot be refused.
 
 use crate::calls;
+use crate::key::{Key, RoundKeys, Rounds};
 use crate::masks::{Masks, Offset, Step};
 use crate::offsets::Offsets;
 use crate::record::{Direction, Record};
@@ -18,40 +19,85 @@ const FITS: &str = "every length and number is right by its type";
 /// The standard form, the only one that a masked run has since form 1 retired.
 const FORM: u8 = 0;
 
-/// The fifteen round keys of AES-256, 240 bytes. Any 240 bytes are taken. They are wiped when the schedule is dropped, and stay where
-/// they are when it is moved, so that no copy is left behind.
+/// The round keys of AES: eleven of them with a key of 16 bytes, thirteen with 24 and fifteen with 32, so 176, 208 or 240 bytes. Any
+/// bytes of these lengths are taken. They are wiped when the schedule is dropped, and stay where they are when it is moved, so that
+/// no copy is left behind.
 ///
 /// ```
 /// use slipgrease::{Refusal, Schedule};
 ///
 /// let schedule = Schedule::expand(&[0; 32]);
-/// assert_eq!(Schedule::try_from(&schedule.as_bytes()[..]), Ok(schedule));
+/// assert_eq!(Schedule::try_from(schedule.as_bytes()), Ok(schedule));
 /// assert_eq!(Schedule::try_from(&[0; 239][..]), Err(Refusal::ScheduleLength));
 /// ```
 #[derive(Clone, PartialEq, Eq)]
 pub struct Schedule(Wiped);
 
-const LENGTH: usize = 240;
-
 impl Schedule {
     /// The schedule of a key, by FIPS 197's KEYEXPANSION.
+    ///
+    /// ```
+    /// use slipgrease::Schedule;
+    ///
+    /// // FIPS 197, C.1 and C.2.
+    /// let block = 0x00112233445566778899aabbccddeeff_u128.to_be_bytes();
+    /// let of_16 = Schedule::expand(&std::array::from_fn::<u8, 16, _>(|i| i as u8));
+    /// let of_24 = Schedule::expand(&std::array::from_fn::<u8, 24, _>(|i| i as u8));
+    /// assert_eq!(of_16.encrypt(&block), 0x69c4e0d86a7b0430d8cdb78070b4c55a_u128.to_be_bytes());
+    /// assert_eq!(of_24.encrypt(&block), 0xdda97ca4864cdfe06eaf70a0ec0d7191_u128.to_be_bytes());
+    /// ```
+    ///
+    /// A key of another length is none:
+    ///
+    /// ```compile_fail
+    /// slipgrease::Schedule::expand(&[0_u8; 31]);
+    /// ```
     #[must_use]
-    pub fn expand(key: &[u8; 32]) -> Schedule {
-        let mut bytes = Wiped::zeros(LENGTH);
-        slices::expand_key(key, &mut bytes).expect(FITS);
-        Schedule(bytes)
+    pub fn expand(key: &impl Key) -> Schedule {
+        Schedule::expand_slice(key.as_ref()).expect(FITS)
     }
 
-    /// A schedule of 240 bytes. What is handed over is wiped; a copy that the caller keeps is not.
-    pub fn new(mut bytes: [u8; 240]) -> Schedule {
+    /// The same of a key whose length is known only as the program runs.
+    ///
+    /// Refused: key not 16, 24 or 32 bytes.
+    ///
+    /// ```
+    /// use slipgrease::{Refusal, Schedule};
+    ///
+    /// assert_eq!(Schedule::expand_slice(&[7; 16]), Ok(Schedule::expand(&[7; 16])));
+    /// assert_eq!(Schedule::expand_slice(&[7; 31]), Err(Refusal::KeyLength));
+    /// ```
+    pub fn expand_slice(key: &[u8]) -> Result<Schedule, Refusal> {
+        let mut bytes = Wiped::zeros(Rounds::of_key(key.len()).map_or(0, Rounds::schedule_bytes));
+        slices::expand_key(key, &mut bytes).map(|()| Schedule(bytes))
+    }
+
+    /// A schedule of 176, 208 or 240 bytes. What is handed over is wiped; a copy that the caller keeps is not.
+    ///
+    /// ```
+    /// use slipgrease::{Rounds, Schedule};
+    ///
+    /// assert_eq!(Schedule::new([0; 176]).rounds(), Rounds::Ten);
+    /// ```
+    ///
+    /// ```compile_fail
+    /// slipgrease::Schedule::new([0_u8; 160]);
+    /// ```
+    pub fn new(mut bytes: impl RoundKeys) -> Schedule {
+        let bytes = bytes.as_mut();
         let schedule = Schedule(Wiped::from(&bytes[..]));
-        calls::wipe(&mut bytes);
+        calls::wipe(bytes);
         schedule
     }
 
-    /// The 240 bytes, round key k from 16 k on.
-    pub fn as_bytes(&self) -> &[u8; 240] {
-        self.0[..].try_into().expect(FITS)
+    /// The 176, 208 or 240 bytes, round key k from 16 k on.
+    pub fn as_bytes(&self) -> &[u8] {
+        &self.0
+    }
+
+    /// How many rounds a run with it has.
+    pub fn rounds(&self) -> Rounds {
+        Rounds::of_schedule(self.0.len()).expect(FITS)
     }
 
     /// FIPS 197's CIPHER.
@@ -70,10 +116,10 @@ impl Schedule {
         output
     }
 
-    /// The 71 states of a plain encryption.
+    /// The states of a plain encryption: 51, 61 or 71.
     #[must_use]
     pub fn record(&self, block: &Block) -> Record {
-        let mut record = Record::blank(Direction::Encryption);
+        let mut record = Record::blank(Direction::Encryption, self.rounds());
         slices::record_plain(&self.0, block, record.as_bytes_mut()).expect(FITS);
         record
     }
@@ -130,7 +176,7 @@ impl Schedule {
         output
     }
 
-    /// The 71 states of a masked run.
+    /// The states of a masked run: 51, 61 or 71.
     ///
     /// ```
     /// use slipgrease::{Masks, Offset, Schedule, Step};
@@ -144,7 +190,7 @@ impl Schedule {
     /// ```
     #[must_use]
     pub fn record_masked(&self, block: &Block, masks: &Masks, offsets: impl Into<Offsets>, step: Step) -> Record {
-        let mut record = Record::blank(Direction::Encryption);
+        let mut record = Record::blank(Direction::Encryption, self.rounds());
         let (masks, offsets, states) = (masks.as_bytes(), offsets.into(), record.as_bytes_mut());
         slices::record_masked(&self.0, block, masks, offsets.as_bytes(), step.number(), states).expect(FITS);
         record
@@ -176,7 +222,7 @@ impl Schedule {
         output
     }
 
-    /// The 85 states of a masked decryption.
+    /// The states of a masked decryption: 61, 73 or 85.
     ///
     /// ```
     /// use slipgrease::{Direction, Masks, Offset, Schedule, Step};
@@ -189,7 +235,7 @@ impl Schedule {
     /// ```
     #[must_use]
     pub fn record_masked_decryption(&self, block: &Block, masks: &Masks, offsets: impl Into<Offsets>, step: Step) -> Record {
-        let mut record = Record::blank(Direction::Decryption);
+        let mut record = Record::blank(Direction::Decryption, self.rounds());
         let (masks, offsets, states) = (masks.as_bytes(), offsets.into(), record.as_bytes_mut());
         slices::record_masked_decryption(&self.0, block, masks, offsets.as_bytes(), step.number(), states).expect(FITS);
         record
@@ -200,9 +246,9 @@ impl TryFrom<&[u8]> for Schedule {
     type Error = Refusal;
 
     fn try_from(bytes: &[u8]) -> Result<Schedule, Refusal> {
-        match bytes.len() {
-            LENGTH => Ok(Schedule(Wiped::from(bytes))),
-            _ => Err(Refusal::ScheduleLength),
+        match Rounds::of_schedule(bytes.len()) {
+            Some(_) => Ok(Schedule(Wiped::from(bytes))),
+            None => Err(Refusal::ScheduleLength),
         }
     }
 }
@@ -215,41 +261,4 @@ impl fmt::Debug for Schedule {
 }
 
 #[cfg(test)]
-mod tests {
-    use super::{Block, Schedule};
-    use crate::masks::{Masks, Offset, Step};
-    use crate::offsets::Offsets;
-
-    /// FIPS 197, C.3, under two mask tables, at one offset and at sixteen.
-    #[test]
-    fn masked_runs_are_the_standard_s_both_ways() {
-        let schedule = Schedule::expand(&std::array::from_fn(|i| i as u8));
-        let plaintext = 0x00112233445566778899aabbccddeeff_u128.to_be_bytes();
-        let ciphertext = 0x8ea2b7ca516745bfeafc49904b496089_u128.to_be_bytes();
-        let others = Masks::new(plaintext);
-        for (offset, step) in Offset::all().flat_map(|offset| Step::all().map(move |step| (offset, step))) {
-            let mixed = std::array::from_fn(|i| ((usize::from(offset.number()) + 5 * i * i + 3 * i) % 16) as u8);
-            for offsets in [Offsets::one(offset), Offsets::new(mixed).unwrap()] {
-                assert_eq!(schedule.encrypt_published(&plaintext, offsets, step), ciphertext);
-                assert_eq!(schedule.encrypt_masked(&plaintext, &others, offsets, step), ciphertext);
-                assert_eq!(schedule.decrypt_published(&ciphertext, offsets, step), plaintext);
-                assert_eq!(schedule.decrypt_masked(&ciphertext, &others, offsets, step), plaintext);
-            }
-        }
-    }
-
-    /// Around the 256 blocks of a call, each block is what a call of its own gives.
-    #[test]
-    fn many_blocks_are_as_single_ones() {
-        let schedule = Schedule::expand(&[7; 32]);
-        for count in [0, 1, 255, 256, 257, 600] {
-            let block = |i: usize| -> Block { std::array::from_fn(|k| (i * 31 + k) as u8) };
-            let offset = |i: usize| Offset::new((i * 7 % 16) as u8).unwrap();
-            let blocks: Vec<(Block, Offset)> = (0..count).map(|i| (block(i), offset(i))).collect();
-            for step in [1, 4].map(|step| Step::new(step).unwrap()) {
-                let single = blocks.iter().map(|(block, offset)| schedule.encrypt_published(block, *offset, step));
-                assert_eq!(schedule.encrypt_blocks(&blocks, step), single.collect::<Vec<Block>>());
-            }
-        }
-    }
-}
+mod tests;

@@ -13,23 +13,28 @@ pub use wrap::*;
 use crate::calls;
 use crate::refusal::Refusal;
 
-/// Writes the 240 bytes of FIPS 197's KEYEXPANSION of a key.
+/// Writes FIPS 197's KEYEXPANSION of a key: 176 bytes for a key of 16, 208 for 24, and 240 for 32.
 ///
-/// Refused, in this order: key not 32 bytes, schedule not 240.
+/// Refused, in this order: key not 16, 24 or 32 bytes, schedule not as long as the key's.
 ///
 /// ```
+/// use slipgrease::Refusal;
+///
 /// let mut schedule = [0; 240];
 /// slipgrease::expand_key(&[0; 32], &mut schedule)?;
 /// assert_eq!(schedule[32..36], [0x62, 0x63, 0x63, 0x63]);
+/// slipgrease::expand_key(&[0; 16], &mut schedule[..176])?;
+/// assert_eq!(schedule[16..20], [0x62, 0x63, 0x63, 0x63]);
+/// assert_eq!(slipgrease::expand_key(&[0; 16], &mut schedule), Err(Refusal::ScheduleLength));
 /// # Ok::<(), slipgrease::Refusal>(())
 /// ```
 pub fn expand_key(key: &[u8], schedule: &mut [u8]) -> Result<(), Refusal> {
     Refusal::check(calls::expand_key(key, schedule))
 }
 
-/// Writes FIPS 197's CIPHER of a block.
+/// Writes FIPS 197's CIPHER of a block, with ten, twelve or fourteen rounds by the schedule's length.
 ///
-/// Refused, in this order: schedule not 240 bytes, input not 16, output not 16.
+/// Refused, in this order: schedule not 176, 208 or 240 bytes, input not 16, output not 16.
 ///
 /// ```
 /// use slipgrease::Refusal;
@@ -56,10 +61,10 @@ pub fn decrypt(schedule: &[u8], input: &[u8], output: &mut [u8]) -> Result<(), R
     Refusal::check(calls::decrypt(schedule, input, output))
 }
 
-/// Writes the 71 states of a plain encryption, 1,136 bytes. They give the key away: state 0 xor state 1 is round key 0, and state 5
-/// xor state 6 is round key 1.
+/// Writes the states of a plain encryption, 16 bytes for each: 51 for ten rounds, which are 816 bytes, 61 for twelve, 976, and 71 for
+/// fourteen, 1,136. They give the key away: state 0 xor state 1 is round key 0, and state 5 xor state 6 is round key 1.
 ///
-/// Refused, in this order: schedule not 240 bytes, input not 16, record not 1,136.
+/// Refused, in this order: schedule not 176, 208 or 240 bytes, input not 16, record not 16 for each state.
 ///
 /// ```
 /// let mut states = [0; 1136];
@@ -136,7 +141,8 @@ pub fn mask_count(masks: &[u8], row: u8, byte: u8, bits: [u8; 3], pattern: u8) -
 }
 
 /// Writes the standard block of one that an early module stored in form 1, with the published masks and step 1: it takes off
-/// Mask(o+14), which was left on it at offset o. Of a standard block it writes the stored one, so that twice gives the input back.
+/// Mask(o+14), which was left on it at offset o, since early modules had keys of 32 bytes alone. Of a standard block it writes the
+/// stored one, so that twice gives the input back.
 ///
 /// Refused, in this order: input not 16 bytes, output not 16, offset above 15.
 ///

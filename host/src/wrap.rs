@@ -8,17 +8,24 @@ use crate::slices;
 /// How much longer a wrapped key is than its key data.
 const REGISTER: usize = 8;
 
-/// Key wrap of RFC 3394, under the wrapping key that this is the schedule of.
+/// Key wrap of RFC 3394, under the wrapping key that this is the schedule of. It has 32 bytes: the schedule of a shorter key is
+/// refused before all else.
+///
+/// ```
+/// use slipgrease::{Refusal, Schedule};
+///
+/// assert_eq!(Schedule::expand(&[1; 24]).wrap(&[2; 16]), Err(Refusal::ScheduleLength));
+/// ```
 impl Schedule {
     /// The key data wrapped, 8 bytes longer.
     ///
-    /// Refused: key data not 16 to 256 bytes in a multiple of 8.
+    /// Refused, in this order: a schedule that is not a 32-byte key's, key data not 16 to 256 bytes in a multiple of 8.
     ///
     /// ```
     /// use slipgrease::{Offset, Refusal, Schedule};
     ///
     /// // RFC 3394, 4.6.
-    /// let schedule = Schedule::expand(&std::array::from_fn(|i| i as u8));
+    /// let schedule = Schedule::expand(&std::array::from_fn::<u8, 32, _>(|i| i as u8));
     /// let key_data: Vec<u8> = (0..16).map(|i| 0x11 * i).chain(0..16).collect();
     /// let wrapped = [
     ///     0x28c9f404c4b810f4_u64, 0xcbccb35cfb87f826, 0x3f5786e2d80ed326, 0xcbc7f0e71a99f43b, 0xfb988b9b7a02dd21,
@@ -40,8 +47,8 @@ impl Schedule {
 
     /// The key data of a wrapped key.
     ///
-    /// Refused, in this order: a wrapped key that is not 8 bytes longer than key data may be, and one whose integrity is broken,
-    /// because it is damaged or was wrapped under another key.
+    /// Refused, in this order: a schedule that is not a 32-byte key's, a wrapped key that is not 8 bytes longer than key data may
+    /// be, and one whose integrity is broken, because it is damaged or was wrapped under another key.
     ///
     /// ```
     /// use slipgrease::{Refusal, Schedule};
@@ -86,6 +93,23 @@ fn written(length: usize, call: impl FnOnce(&mut [u8]) -> Result<(), Refusal>) -
 #[cfg(test)]
 mod tests {
     use crate::{Offset, Refusal, Schedule};
+
+    /// Whatever else is wrong.
+    #[test]
+    fn shorter_keys_wrap_nothing() {
+        let offset = Offset::new(3).unwrap();
+        for schedule in [Schedule::expand(&[7; 16]), Schedule::expand(&[7; 24])] {
+            for data in [&[2; 16][..], &[2; 24], &[2; 7]] {
+                let replies = [
+                    schedule.wrap(data),
+                    schedule.unwrap(data),
+                    schedule.wrap_masked(data, offset),
+                    schedule.unwrap_masked(data, offset),
+                ];
+                assert!(replies.iter().all(|reply| *reply == Err(Refusal::ScheduleLength)), "{replies:?}");
+            }
+        }
+    }
 
     /// Every length up to beyond the longest, both ways, by both engines at an offset each.
     #[test]

@@ -74,6 +74,9 @@ fn what_is_not_wiped_is_found() {
 fn schedules_and_lists_are_wiped() {
     assert_eq!(found(|| drop(schedule())), 0);
     assert_eq!(found(|| drop(schedule().clone())), 0);
+    assert_eq!(found(|| drop(Schedule::expand(&[MARK; 16]))), 0);
+    assert_eq!(found(|| drop(Schedule::expand_slice(&[MARK; 24]))), 0);
+    assert_eq!(found(|| drop(Schedule::new([MARK; 176]))), 0);
     assert_eq!(found(|| drop(Schedule::new([MARK; 240]))), 0);
     assert_eq!(found(|| drop(Schedule::try_from(&[MARK; 240][..]))), 0);
     assert_eq!(found(|| drop(vec![schedule(), schedule()])), 0);

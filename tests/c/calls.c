@@ -1,7 +1,8 @@
 /*
  * Every call of the header as a C compiler makes it, with answers of FIPS 197 and of the rules of the masks, and a null pointer
- * of length 0 in the place of each buffer. How the calls answer in general is for the proofs and the second program. The masked
- * calls are in masked.c, encryption.c, decryption.c and offsets.c, key wrap is in wrap.c, and packets are in packets.c.
+ * of length 0 in the place of each buffer. How the calls answer in general is for the proofs and the second program. Keys of other
+ * lengths than 32 bytes are in keys.c, the masked calls in masked.c, encryption.c, decryption.c and offsets.c, key wrap is in wrap.c,
+ * and packets are in packets.c.
  *
  * Usage: calls [NAME]. What is expected of the call NAME, which goes without slipgrease_, is spoiled: it must be found to differ.
  * Prints a line for each difference, and fails if there is any.
@@ -178,6 +179,7 @@ int main(int count, char **words)
     if (count > 1)
         spoiled = words[1];
     rack();
+    key_lengths();
     masked_refusals();
     encryption();
     decryption();

@@ -70,6 +70,7 @@ static void many(void)
 
 void encryption(void)
 {
+    choose(&examples[C_3]);
     for (int o = 0; o < 17; o++)
         for (int d = 0; d < 256; d++)
             at((uint8_t)o, (uint8_t)d);

@@ -82,6 +82,20 @@ uint8_t reply_to_step(uint8_t d)
     return d == 0 || d == 2 || d == 3 || d > 15 ? SLIPGREASE_REPLY_STEP_WRONG : SLIPGREASE_REPLY_DONE;
 }
 
+const struct example examples[EXAMPLES] = {
+    {"69c4e0d86a7b0430d8cdb78070b4c55a", 16, 176, 10, 816, 976},
+    {"dda97ca4864cdfe06eaf70a0ec0d7191", 24, 208, 12, 976, 1168},
+    {"8ea2b7ca516745bfeafc49904b496089", 32, 240, 14, 1136, 1360},
+};
+
+void expand(const struct example *example, uint8_t schedule[SLIPGREASE_SCHEDULE_BYTES])
+{
+    uint8_t key[SLIPGREASE_KEY_BYTES];
+    for (size_t i = 0; i < sizeof key; i++)
+        key[i] = (uint8_t)i;
+    CALL(expand_key, SLIPGREASE_REPLY_DONE, key, example->key, schedule, example->schedule);
+}
+
 const char plaintext[] = "00112233445566778899aabbccddeeff";
 const char ciphertext[] = "8ea2b7ca516745bfeafc49904b496089";
 uint8_t w[SLIPGREASE_SCHEDULE_BYTES];

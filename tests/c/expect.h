@@ -1,6 +1,6 @@
 /*
- * What the tests of the calls share: how an answer is compared, how every set of causes of refusal is tried, and the example of
- * FIPS 197, C.3.
+ * What the tests of the calls share: how an answer is compared, how every set of causes of refusal is tried, and the examples of
+ * FIPS 197, C.1 to C.3.
  */
 #include <slipgrease.h>
 
@@ -35,6 +35,18 @@ uint8_t reply_to_step(uint8_t d);
 extern const char plaintext[], ciphertext[];
 extern uint8_t w[SLIPGREASE_SCHEDULE_BYTES];
 extern const uint8_t masks[SLIPGREASE_MASKS_BYTES];
+
+/* C.1 to C.3: the ciphertext of the same block under a key 00 01 .. of so many bytes, the bytes of its schedule, how many rounds
+   there are, and the bytes of the record of an encryption and of that of a decryption. */
+struct example {
+    const char *ciphertext;
+    size_t key, schedule, rounds, record, decryption_record;
+};
+enum { C_1, C_2, C_3, EXAMPLES };
+extern const struct example examples[EXAMPLES];
+
+/* The schedule of an example's key, as long as that is. */
+void expand(const struct example *example, uint8_t schedule[SLIPGREASE_SCHEDULE_BYTES]);
 
 /* A lent buffer. Behind its bytes there is one more, for a length that is too great. */
 struct buffer {
@@ -81,15 +93,20 @@ enum masked {
 };
 extern const struct call masked_calls[MASKED_CALLS];
 
-/* C.3's block for such a call, or the ciphertext, with the published masks, and nothing written. */
+/* Chooses the example that the next two are about. */
+void choose(const struct example *example);
+
+/* The block for such a call, or the ciphertext, with the published masks, and nothing written. */
 struct lent lent_to(enum masked call, const uint8_t offsets[SLIPGREASE_BYTE_OFFSETS], uint8_t step);
 
-/* Makes a call, which should answer this. Where it is done, the block that it ends with should be C.3's, and where it is refused,
-   nothing should be written. Gives the states that it has written, if it has. */
+/* Makes a call, which should answer this. Where it is done, the block that it ends with should be the example's, and where it is
+   refused, nothing should be written. Gives the states that it has written, if it has. */
 const uint8_t *answered(enum masked call, const struct lent *lent, uint8_t reply);
 
-/* In masked.c: what the masked calls for one block refuse. In encryption.c and decryption.c: C.3 at every offset with every step.
-   In offsets.c: an offset for each byte. In wrap.c: the calls of key wrap. In packets.c: those of packets. */
+/* In keys.c: the three lengths of a key. In masked.c: what the masked calls for one block refuse. In encryption.c and decryption.c:
+   C.3 at every offset with every step. In offsets.c: an offset for each byte. In wrap.c: the calls of key wrap. In packets.c: those
+   of packets. */
+void key_lengths(void);
 void masked_refusals(void);
 void encryption(void);
 void decryption(void);

@@ -1,6 +1,6 @@
 /*
- * The masked calls for one block as a C compiler makes them, and what they refuse: every set of causes, every length of the offsets
- * about the right one, a number above 15 alone in each of their places, and every form but 0.
+ * The masked calls for one block as a C compiler makes them, and what they refuse with a key of each length: every set of causes,
+ * every length of the offsets about the right one, a number above 15 alone in each of their places, and every form but 0.
  */
 #include "expect.h"
 
@@ -10,6 +10,9 @@
 static uint8_t schedule[SLIPGREASE_SCHEDULE_BYTES + 1], input[SLIPGREASE_BLOCK_BYTES + 1], output[SLIPGREASE_BLOCK_BYTES + 1];
 static uint8_t table[SLIPGREASE_MASKS_BYTES + 1], offsets[2 * SLIPGREASE_BYTE_OFFSETS];
 static uint8_t record[SLIPGREASE_DECRYPTION_RECORD_BYTES + 1];
+
+static const struct example *chosen;
+static uint8_t expanded[SLIPGREASE_SCHEDULE_BYTES];
 
 static const uint8_t falling[SLIPGREASE_BYTE_OFFSETS] = {15, 14, 13, 12, 11, 10, 9, 8, 7, 6, 5, 4, 3, 2, 1, 0};
 
@@ -89,18 +92,24 @@ static bool records(enum masked call)
     return call == RECORD_MASKED || call == RECORD_MASKED_DECRYPTION;
 }
 
+void choose(const struct example *example)
+{
+    chosen = example;
+    expand(example, expanded);
+}
+
 struct lent lent_to(enum masked call, const uint8_t at[SLIPGREASE_BYTE_OFFSETS], uint8_t step)
 {
-    memcpy(schedule, w, sizeof w);
-    read_digits(input, encrypts(call) ? plaintext : ciphertext);
+    memcpy(schedule, expanded, sizeof expanded);
+    read_digits(input, encrypts(call) ? plaintext : chosen->ciphertext);
     memcpy(table, masks, sizeof masks);
     memcpy(offsets, at, SLIPGREASE_BYTE_OFFSETS);
     memset(output, UNTOUCHED, sizeof output);
     memset(record, UNTOUCHED, sizeof record);
     return (struct lent){
-        .schedule = {schedule, sizeof schedule - 1}, .input = {input, sizeof input - 1}, .output = {output, sizeof output - 1},
+        .schedule = {schedule, chosen->schedule}, .input = {input, sizeof input - 1}, .output = {output, sizeof output - 1},
         .masks = {table, sizeof table - 1}, .offsets = {offsets, SLIPGREASE_BYTE_OFFSETS}, .step = step,
-        .record = {record, encrypts(call) ? SLIPGREASE_RECORD_BYTES : SLIPGREASE_DECRYPTION_RECORD_BYTES}};
+        .record = {record, encrypts(call) ? chosen->record : chosen->decryption_record}};
 }
 
 const uint8_t *answered(enum masked call, const struct lent *lent, uint8_t reply)
@@ -112,7 +121,7 @@ const uint8_t *answered(enum masked call, const struct lent *lent, uint8_t reply
         number(name, written(), 0);
         return NULL;
     }
-    bytes(name, block, encrypts(call) ? ciphertext : plaintext);
+    bytes(name, block, encrypts(call) ? chosen->ciphertext : plaintext);
     return records(call) ? record : NULL;
 }
 
@@ -158,10 +167,13 @@ static void wrong_forms(enum masked call)
 
 void masked_refusals(void)
 {
-    for (enum masked call = ENCRYPT_PUBLISHED; call < MASKED_CALLS; call++) {
-        refusals(&masked_calls[call], encrypts(call) ? right_to_encrypt : right_to_decrypt, written);
-        wrong_offsets(call);
+    for (size_t i = C_1; i < EXAMPLES; i++) {
+        choose(&examples[i]);
+        for (enum masked call = ENCRYPT_PUBLISHED; call < MASKED_CALLS; call++) {
+            refusals(&masked_calls[call], encrypts(call) ? right_to_encrypt : right_to_decrypt, written);
+            wrong_offsets(call);
+        }
+        wrong_forms(ENCRYPT_PUBLISHED);
+        wrong_forms(ENCRYPT_MASKED);
     }
-    wrong_forms(ENCRYPT_PUBLISHED);
-    wrong_forms(ENCRYPT_MASKED);
 }

@@ -1,6 +1,6 @@
 /*
- * An offset for each byte, as a C compiler hands them over: C.3 both ways, with every step, at records of offsets that are not
- * those of one offset. Each state that is recorded is held to the header's tables, whose masks are worked out here.
+ * An offset for each byte, as a C compiler hands them over: C.1 to C.3 both ways, with every step, at records of offsets that are
+ * not those of one offset. Each state that is recorded is held to the header's tables, whose masks are worked out here.
  */
 #include "expect.h"
 
@@ -21,8 +21,9 @@ static const uint8_t others[][BYTES] = {
 };
 enum { OTHERS = sizeof others / sizeof others[0] };
 
-/* C.3's states by the plain engine. */
+/* The states of an example by the plain engine, and how many rounds there are. */
 static uint8_t plain[SLIPGREASE_RECORD_BYTES];
+static size_t rounds;
 
 /* Mask(o+k). */
 static void mask(uint8_t to[BYTES], const uint8_t table[MASK_COUNT], const uint8_t offsets[BYTES], size_t on)
@@ -65,7 +66,7 @@ static void cover(uint8_t over[BYTES], enum masked call, size_t s, const uint8_t
         mask(over, table, offsets, d * (point < 1 ? r : r + 1));
         if (point == 2 || point == 3)
             shift_rows(over, SHIFTED);
-        if (point == 3 && r < 13)
+        if (point == 3 && r < rounds - 1)
             mix_columns(over, forth);
     } else {
         mask(over, table, offsets, d * (point < 2 ? r : r + 1));
@@ -83,14 +84,19 @@ static const uint8_t *plain_state(enum masked call, size_t s)
     static const size_t before[6] = {3, 3, 4, 5, 7, 7};
     if (call == RECORD_MASKED)
         return plain + BYTES * s;
-    return plain + BYTES * (s < 2 ? 70 - 2 * s : 70 - 5 * ((s - 2) / 6) - before[(s - 2) % 6]);
+    return plain + BYTES * (5 * rounds - (s < 2 ? 2 * s : 5 * ((s - 2) / 6) + before[(s - 2) % 6]));
 }
 
-/* All states but the last, over which nothing lies. */
+/* The last state, over which nothing lies. */
+static size_t last(enum masked call)
+{
+    return rounds * (call == RECORD_MASKED ? 5 : 6);
+}
+
+/* All states but the last. */
 static void states(enum masked call, const uint8_t *record, const uint8_t *table, const uint8_t *offsets, uint8_t d)
 {
-    size_t last = call == RECORD_MASKED ? SLIPGREASE_STATES - 1 : SLIPGREASE_DECRYPTION_STATES - 1;
-    for (size_t s = 0; s < last; s++) {
+    for (size_t s = 0; s < last(call); s++) {
         uint8_t bare[BYTES];
         cover(bare, call, s, table, offsets, d);
         for (size_t i = 0; i < BYTES; i++)
@@ -102,7 +108,7 @@ static void states(enum masked call, const uint8_t *record, const uint8_t *table
 /* With sixteen equal offsets, 0, all bytes of a state lie under one mask, M(dr), which neither moving nor mixing changes. */
 static void one_mask(enum masked call, const uint8_t *record, uint8_t d)
 {
-    for (size_t s = 0; s < (call == RECORD_MASKED ? SLIPGREASE_STATES : SLIPGREASE_DECRYPTION_STATES) - 1; s++) {
+    for (size_t s = 0; s < last(call); s++) {
         size_t r = call == RECORD_MASKED ? (s + 3) / 5 : (s + 2) / 6;
         uint8_t bare[BYTES];
         for (size_t i = 0; i < BYTES; i++)
@@ -150,11 +156,15 @@ static void one_offset(void)
     }
 }
 
-void offset_for_each_byte(void)
+/* All of it with the key of an example. */
+static void with(const struct example *example)
 {
-    uint8_t in[BYTES], offsets[BYTES];
+    uint8_t in[BYTES], offsets[BYTES], schedule[SLIPGREASE_SCHEDULE_BYTES];
     read_digits(in, plaintext);
-    CALL(record_plain, SLIPGREASE_REPLY_DONE, LENT(w), LENT(in), LENT(plain));
+    expand(example, schedule);
+    CALL(record_plain, SLIPGREASE_REPLY_DONE, schedule, example->schedule, LENT(in), plain, example->record);
+    rounds = example->rounds;
+    choose(example);
     one_offset();
     at(equal);
     for (size_t k = 0; k < OTHERS; k++)
@@ -164,4 +174,10 @@ void offset_for_each_byte(void)
         slipgrease_one_offset(offsets, n);
         at(offsets);
     }
+}
+
+void offset_for_each_byte(void)
+{
+    for (size_t i = C_1; i < EXAMPLES; i++)
+        with(&examples[i]);
 }

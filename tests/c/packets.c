@@ -268,6 +268,17 @@ static void lengths(void)
         }
 }
 
+/* Lists with the schedules of shorter keys. */
+static void shorter_lists(void)
+{
+    for (enum way way = THERE; way < WAYS; way++)
+        for (size_t i = C_1; i < C_3; i++) {
+            struct lent lent = way == THERE ? right_to_scramble() : right_to_descramble();
+            lent.pipes.length = SLIPGREASE_PIPES * (2 + 2 * examples[i].schedule + BLOCK);
+            refuses(way, &lent, SLIPGREASE_REPLY_PIPES_WRONG);
+        }
+}
+
 void packets(void)
 {
     for (size_t k = 0; k < SLIPGREASE_PIPES; k++)
@@ -284,6 +295,7 @@ void packets(void)
         if (!is_listed(pid))
             copied(pid, (uint8_t)(pid % 8), 0xd0, 0);
     lengths();
+    shorter_lists();
     refusals(&calls[THERE], right_to_scramble, written);
     refusals(&calls[BACK], right_to_descramble, written);
     lists();

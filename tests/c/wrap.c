@@ -1,6 +1,6 @@
 /*
  * Key wrap as a C compiler calls it: the vectors of RFC 3394 with a 256-bit key, by both engines and at every offset, every damaged
- * bit, every length, and every set of causes of refusal.
+ * bit, every length, also of a schedule, and every set of causes of refusal.
  */
 #include "expect.h"
 
@@ -155,6 +155,24 @@ static void lengths(enum engine engine)
         }
 }
 
+/* Every length of a schedule but that of a 32-byte key, also those that the runs take. */
+static void wrong_schedules(enum engine engine)
+{
+    const struct call *there = &wrapping[engine], *back = &unwrapping[engine];
+    for (size_t length = 0; length <= sizeof schedule; length++) {
+        if (length == SLIPGREASE_SCHEDULE_BYTES)
+            continue;
+        struct lent lent = right_to_wrap();
+        lent.schedule.length = length;
+        number(there->name, there->answer(&lent), SLIPGREASE_REPLY_SCHEDULE_LENGTH);
+        number(there->name, wrapped_written(), 0);
+        lent = right_to_unwrap();
+        lent.schedule.length = length;
+        number(back->name, back->answer(&lent), SLIPGREASE_REPLY_SCHEDULE_LENGTH);
+        number(back->name, key_data_written(), 0);
+    }
+}
+
 void key_wrap(void)
 {
     memcpy(schedule, w, sizeof w);
@@ -165,6 +183,7 @@ void key_wrap(void)
             damage(&vectors[i], engine);
         }
         lengths(engine);
+        wrong_schedules(engine);
         refusals(&wrapping[engine], right_to_wrap, wrapped_written);
         refusals(&unwrapping[engine], right_to_unwrap, key_data_written);
     }

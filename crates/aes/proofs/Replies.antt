@@ -9,6 +9,11 @@ use lib.Dec.{T, eqb}
 use mir.Facts.{and-yes}
 use Rattle.aes.specs.Reply.{Check, _else_, answer, refusal}
 
+-- what holds is true
+pub is-true : (b : Bool) → T b → b ≡ true
+is-true true t = refl
+is-true false t = absurd t
+
 unfoldable pub AllHold : List Check → Type 0
 AllHold [] = Unit
 AllHold ((holds else reply) ∷ checks) = T holds × AllHold checks

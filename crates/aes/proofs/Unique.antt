@@ -13,6 +13,7 @@ use Rattle.aes.proofs.field.multiply.Reads as multiply
 use Rattle.aes.proofs.field.power.Reads as power
 use Rattle.aes.proofs.key.expand_key.Reads as expand-key
 use Rattle.aes.proofs.record.record_plain.Reads as record-plain
+use Rattle.aes.proofs.size.rounds_for.Reads as rounds-for
 use Rattle.aes.proofs.state.add.Reads as add
 use Rattle.aes.proofs.state.inv_mix_columns.Reads as inv-mix-columns
 use Rattle.aes.proofs.state.inv_shift_rows.Reads as inv-shift-rows
@@ -76,6 +77,9 @@ both x y a b z p q =
 
 pub expand-key-unique : UniqueWriting expand-key.Post (λ κs e. e .1 .0 .now)
 expand-key-unique κs args e f x y p q = both x y _ _ _ p q
+
+pub rounds-for-unique : Unique rounds-for.Post
+rounds-for-unique κs args exit x y p q = p .0 ∙ sym (q .0)
 
 pub encrypt-unique : UniqueWriting encrypt.Post (λ κs e. e .1 .1 .0 .now)
 encrypt-unique κs args e f x y p q = both x y _ _ _ p q

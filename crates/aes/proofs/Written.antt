@@ -2,13 +2,14 @@
 -- Assumes nothing.
 use mathlib.Core.Path.{_≡_, refl, sym, ap, _∙_}
 use mathlib.Core.List.{List, [], _∷_, _++_, append-assoc, append-nil}
-use Prim.Native.Nat.{ℕ, zero, suc, _+_, _*_, _-_, _≤_}
+use Prim.Native.Nat.{ℕ, zero, suc, _+_, _*_, _-_, _≤_, _<_}
 use native.Mathlib.Nat.{mul-zero, mul-suc}
 use native.Mathlib.Numerals.{add-one}
 use native.Mathlib.Omega.{arith}
 use lib.Dec.{lit≤}
+use borrow.Author.Tests.{eq-eqb, ne-eqb}
 use lib.ListN.{length, length-append}
-use Rattle.aes.specs.Record.{Point, block, wholes, five, points, run, last, bytes, Recorded}
+use Rattle.aes.specs.Record.{Point, block, whole, final, wholes, five, points, run, last, bytes, Recorded}
 use Rattle.aes.specs.Held.{Holds}
 use Rattle.aes.proofs.Part.{holds-none, holds-all, lent, back}
 
@@ -101,13 +102,27 @@ pub turns-length : {P : Type 0} (b : P) (ps : ℕ → List P) (k : ℕ) → ((i 
 turns-length b ps k e zero = rw mul-zero
 turns-length b ps k e (suc n) = simp (length-append, mul-suc) (omega (arith, turns-length b ps k e n, e n))
 
-pub rounds-all : block ∷ turns five 14 ≡ points 14
-unfolding points wholes
-rounds-all = refl
+-- the points of n rounds, five for each and one before them
+wholes-turns : (n r : ℕ) → r < n → turns (five n) r ≡ wholes r
+unfolding wholes
+wholes-turns n zero h = refl
+wholes-turns n (suc r) h = λ i. wholes-turns n r (omega arith) i ++ five-whole i
+  where
+    five-whole : five n r ≡ whole r
+    five-whole = simp (ne-eqb (suc r) n (λ e. absurd (omega arith)))
 
-pub rounds-bytes : 16 * length (points 14) ≡ 1136
-unfolding points wholes
-rounds-bytes = refl
+pub rounds-all : (n : ℕ) → 0 < n → block ∷ turns (five n) n ≡ points n
+unfolding points
+rounds-all n h =
+    let r : ℕ = n - 1 in
+    let e : suc r ≡ n = omega (arith, h) in
+    ap (λ (m : ℕ). block ∷ turns (five n) m) (sym e) ∙ λ i. block ∷ (wholes-turns n r (omega (arith, h)) i ++ five-final r e i)
+  where
+    five-final : (r : ℕ) → suc r ≡ n → five n r ≡ final r
+    five-final r e = simp (eq-eqb (suc r) n e)
+
+pub rounds-bytes : (n : ℕ) → 0 < n → 16 * length (points n) ≡ 80 * n + 16
+rounds-bytes n h = ap (λ (ps : List Point). 16 * length ps) (sym (rounds-all n h)) ∙ turns-length block (five n) 80 (λ i. refl) n
 
 module _ {P : Type 0} {f : P → List ℕ → List ℕ} (h : Sized f) {s : List ℕ} (l : length s ≡ 16) (b : P) {size : ℕ} where
   -- the first point, a turn more in the k bytes behind what is written, and all points gone through after m turns

@@ -1,9 +1,10 @@
--- KEYEXPANSION of FIPS 197, 5.2, for Nk = 8 words of key.
+-- KEYEXPANSION of FIPS 197, 5.2, for Nk = 4, 6 and 8 words of key.
 -- Assumes nothing.
-use mathlib.Core.Bool.{cond}
+use mathlib.Core.Bool.{cond, _&&_}
 use mathlib.Core.List.{List, [], _∷_, _++_}
 use Prim.Native.Nat.{ℕ, zero, suc, _+_, _-_, _*_, _/_, _%_}
-use lib.Dec.{eqb}
+use lib.Dec.{eqb, leb}
+use lib.ListN.{length}
 use Rattle.aes.specs.Byte.{_⊕_, listed}
 use Rattle.aes.specs.Field.{raise}
 use Rattle.aes.specs.Box.{sBox}
@@ -29,23 +30,31 @@ subWord a = word (λ j. sBox (at a j))
 abbrev pub rcon : ℕ → List ℕ
 rcon j = raise 0x02 (j - 1) ∷ 0 ∷ 0 ∷ 0 ∷ []
 
--- what is added to word i - 8 to make word i, by the word before
-unfoldable pub temp : List ℕ → ℕ → List ℕ
-temp before i =
-    cond (eqb (i % 8) 0) (sumWord (subWord (rotWord before)) (rcon (i / 8)))
-    (cond (eqb (i % 8) 4) (subWord before) before)
+-- what is added to word i - nk to make word i, by the word before: where nk is above 6, one more in the middle is substituted
+unfoldable pub temp : ℕ → List ℕ → ℕ → List ℕ
+temp nk before i =
+    cond (eqb (i % nk) 0) (sumWord (subWord (rotWord before)) (rcon (i / nk)))
+    (cond (leb 7 nk && eqb (i % nk) 4) (subWord before) before)
 
-unfoldable pub nextWord : List ℕ → ℕ → List ℕ
-nextWord w i = sumWord (wordAt w (i - 8)) (temp (wordAt w (i - 1)) i)
+unfoldable pub nextWord : ℕ → List ℕ → ℕ → List ℕ
+nextWord nk w i = sumWord (wordAt w (i - nk)) (temp nk (wordAt w (i - 1)) i)
 
--- the key's eight words, and n words more
-unfoldable pub expanded : List ℕ → ℕ → List ℕ
-expanded key zero = key
-expanded key (suc n) = let w = expanded key n in w ++ nextWord w (8 + n)
+-- the key's nk words, and n words more
+unfoldable pub expanded : ℕ → List ℕ → ℕ → List ℕ
+expanded nk key zero = key
+expanded nk key (suc n) = let w = expanded nk key n in w ++ nextWord nk w (nk + n)
 
--- KEYEXPANSION: 60 words, 240 bytes
+-- how many words a key has
+abbrev pub words : List ℕ → ℕ
+words key = length key / 4
+
+-- KEYEXPANSION: four words for each of nk + 6 rounds, and four more
 unfoldable pub keyExpansion : List ℕ → List ℕ
-keyExpansion key = expanded key 52
+keyExpansion key = expanded (words key) key (4 * (words key + 7) - words key)
+
+-- the rounds that a schedule is for, which has a round key for each, and one more
+abbrev pub roundsOf : List ℕ → ℕ
+roundsOf w = length w / 16 - 1
 
 -- round key r, at byte 16 r
 unfoldable pub roundKey : List ℕ → ℕ → List ℕ

@@ -26,13 +26,13 @@ unfoldable pub wholes : ℕ → List Point
 wholes zero = []
 wholes (suc n) = wholes n ++ whole n
 
--- the points of a run of nr rounds: 71 for 14
+-- the points of a run of nr rounds, 5 nr + 1
 unfoldable pub points : ℕ → List Point
 points nr = (block ∷ wholes (nr - 1)) ++ final (nr - 1)
 
--- the five points of round r of fourteen, whole or final
-abbrev pub five : ℕ → List Point
-five r = keyed r ∷ boxed r ∷ shifted r ∷ cond (eqb r 13) (closed r) (mixed r) ∷ cond (eqb r 13) (uncovered r) (compensated r) ∷ []
+-- the five points of round r of nr, whole or final
+abbrev pub five : ℕ → ℕ → List Point
+five nr r = keyed r ∷ boxed r ∷ shifted r ∷ cond (eqb (suc r) nr) (closed r) (mixed r) ∷ cond (eqb (suc r) nr) (uncovered r) (compensated r) ∷ []
 
 -- the states of a run from s on, where f p makes the state at p from the one before; and the last of them
 unfoldable pub run : {P : Type 0} → (P → List ℕ → List ℕ) → List ℕ → List P → List (List ℕ)

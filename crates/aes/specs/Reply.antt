@@ -2,7 +2,7 @@
 -- Assumes nothing.
 use mathlib.Core.Bool.{Bool, cond, not, _&&_, _||_}
 use mathlib.Core.List.{List, [], _∷_}
-use Prim.Native.Nat.{ℕ, _+_, _*_, _/_, _%_}
+use Prim.Native.Nat.{ℕ, _+_, _-_, _*_, _/_, _%_}
 use lib.Dec.{eqb, leb}
 use lib.ListN.{length, getD}
 use Rattle.aes.specs.Byte.{below}
@@ -23,11 +23,27 @@ abbrev pub refusal : List Check → ℕ
 refusal [] = 0
 refusal ((holds else reply) ∷ checks) = cond holds (refusal checks) reply
 
+-- a key of one of the three lengths has so many bytes
+abbrev pub keyed : ℕ → Bool
+keyed n = eqb n 16 || eqb n 24 || eqb n 32
+
 abbrev pub isKey : List ℕ → Check
-isKey key = eqb (length key) 32 else 1
+isKey key = keyed (length key) else 1
+
+-- sixteen bytes for each round of a key's schedule, which are six more than its words, and sixteen more
+abbrev pub isScheduleOf : List ℕ → List ℕ → Check
+isScheduleOf key schedule = eqb (length schedule) (4 * length key + 112) else 2
+
+-- the schedule of a key of one of the three lengths has so many bytes
+abbrev pub scheduled : ℕ → Bool
+scheduled n = eqb n 176 || eqb n 208 || eqb n 240
+
+-- the rounds that it is for, which has a round key for each and one more, and none where it is no schedule
+abbrev pub roundsFor : ℕ → ℕ
+roundsFor n = cond (scheduled n) (n / 16 - 1) 0
 
 abbrev pub isSchedule : List ℕ → Check
-isSchedule schedule = eqb (length schedule) 240 else 2
+isSchedule schedule = scheduled (length schedule) else 2
 
 -- where only the schedule of a 32-byte key will ever do: key wrap, and what keeps to one offset
 abbrev pub isFullSchedule : List ℕ → Check
@@ -58,8 +74,9 @@ areOffsets offsets = below (length offsets) (λ k. leb (getD offsets k 0) 15) el
 abbrev pub isForm : ℕ → Check
 isForm form = eqb form 0 else 7
 
-abbrev pub isRecord : List ℕ → Check
-isRecord states = eqb (length states) 1136 else 8
+-- a record of so many bytes
+abbrev pub isRecordOf : ℕ → List ℕ → Check
+isRecordOf size states = eqb (length states) size else 8
 
 abbrev pub hasLogarithm : ℕ → Check
 hasLogarithm b = not (eqb b 0) else 9

@@ -1,6 +1,6 @@
-// Encryption and decryption of one block: CIPHER and INVCIPHER of FIPS 197, fourteen rounds.
+// Encryption and decryption of one block: CIPHER and INVCIPHER of FIPS 197, of as many rounds as the schedule is for.
 ghost use mathlib.Core.Path.{_≡_};
-ghost use Prim.Native.Nat.{_<_};
+ghost use Prim.Native.Nat.{_+_, _*_, _≤_, _<_};
 ghost use lib.ListN.{length};
 ghost use Rattle.aes.specs.Byte.{table};
 ghost use Rattle.aes.specs.Box.{sBox, invSBox};
@@ -9,6 +9,7 @@ ghost use Rattle.aes.specs.Key.{roundKey};
 ghost use Rattle.aes.specs.Cipher.{cipher, invCipher};
 ghost use Rattle.aes.specs.Calls.{blockOf, encryptOf, decryptOf};
 use crate::reply;
+use crate::size::rounds_for;
 use crate::state::add;
 use crate::state::block;
 use crate::state::inv_shift_rows;
@@ -38,7 +39,8 @@ pub fn decrypt(schedule: &[u8], input: &[u8], output: &mut [u8]) -> u8
 fn run(schedule: &[u8], input: &[u8], output: &mut [u8], back: bool) -> u8
     ensures { λ r. ⌜ (r, now (output .exit)) ≡ blockOf back (now (schedule .entry)) (now (input .entry)) (now (output .entry)) ⌝ }
 {
-    if schedule.len() != 240 {
+    let n = rounds_for(schedule.len());
+    if n == 0 {
         return reply::SCHEDULE_LENGTH;
     }
     if input.len() != 16 {
@@ -49,37 +51,38 @@ fn run(schedule: &[u8], input: &[u8], output: &mut [u8], back: bool) -> u8
     }
     let b = block(input);
     if back {
-        let t = decrypted(b, schedule);
+        let t = decrypted(b, schedule, n);
         put(t, output);
         return reply::DONE;
     }
-    let c = encrypted(b, schedule);
+    let c = encrypted(b, schedule, n);
     put(c, output);
     reply::DONE
 }
 
-fn encrypted(input: [u8; 16], w: &[u8]) -> [u8; 16]
-    requires { ⌜ length (now w) ≡ 240 ⌝ }
-    ensures { λ r. ⌜ r ≡ cipher 14 (now (w .entry)) input ⌝ }
+fn encrypted(input: [u8; 16], w: &[u8], n: usize) -> [u8; 16]
+    requires { ⌜ (0 < n) × (n < 15) × (length (now w) ≡ 16 * n + 16) ⌝ }
+    ensures { λ r. ⌜ r ≡ cipher n (now (w .entry)) input ⌝ }
 {
     let sbox = tables::sbox();
     let mut s = add(input, round_key(w, 0));
+    let last = n - 1;
     let mut r = 0;
-    while r < 13 {
+    while r < last {
         r += 1;
         let t = round(s, w, r, &sbox);
         s = t;
     }
-    add(sub_shift(s, &sbox), round_key(w, 14))
+    add(sub_shift(s, &sbox), round_key(w, n))
 }
 
-fn decrypted(input: [u8; 16], w: &[u8]) -> [u8; 16]
-    requires { ⌜ length (now w) ≡ 240 ⌝ }
-    ensures { λ r. ⌜ r ≡ invCipher 14 (now (w .entry)) input ⌝ }
+fn decrypted(input: [u8; 16], w: &[u8], n: usize) -> [u8; 16]
+    requires { ⌜ (0 < n) × (n < 15) × (length (now w) ≡ 16 * n + 16) ⌝ }
+    ensures { λ r. ⌜ r ≡ invCipher n (now (w .entry)) input ⌝ }
 {
     let inv_sbox = tables::inv_sbox();
-    let mut s = add(input, round_key(w, 14));
-    let mut r = 13;
+    let mut s = add(input, round_key(w, n));
+    let mut r = n - 1;
     while 0 < r {
         let t = inv_round(s, w, r, &inv_sbox);
         s = t;
@@ -89,14 +92,14 @@ fn decrypted(input: [u8; 16], w: &[u8]) -> [u8; 16]
 }
 
 fn round(s: [u8; 16], w: &[u8], r: usize, sbox: &[u8; 256]) -> [u8; 16]
-    requires { ⌜ (r < 15) × (length (now w) ≡ 240) × (now sbox ≡ table sBox 256) ⌝ }
+    requires { ⌜ (r < 15) × (16 * r + 16 ≤ length (now w)) × (now sbox ≡ table sBox 256) ⌝ }
     ensures { λ t. ⌜ t ≡ addRoundKey (mixColumns (shiftRows (subBytes s))) (roundKey (now (w .entry)) r) ⌝ }
 {
     add(mix_columns(sub_shift(s, sbox)), round_key(w, r))
 }
 
 fn inv_round(s: [u8; 16], w: &[u8], r: usize, inv_sbox: &[u8; 256]) -> [u8; 16]
-    requires { ⌜ (r < 15) × (length (now w) ≡ 240) × (now «inv_sbox» ≡ table invSBox 256) ⌝ }
+    requires { ⌜ (r < 15) × (16 * r + 16 ≤ length (now w)) × (now «inv_sbox» ≡ table invSBox 256) ⌝ }
     ensures { λ t. ⌜ t ≡ invMixColumns (addRoundKey (invSubBytes (invShiftRows s)) (roundKey (now (w .entry)) r)) ⌝ }
 {
     let t = add(inv_shift_sub(s, inv_sbox), round_key(w, r));

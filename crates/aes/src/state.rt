@@ -1,6 +1,6 @@
 // The transformations of a state by value: sixteen bytes, column by column.
 ghost use mathlib.Core.Path.{_≡_};
-ghost use Prim.Native.Nat.{_<_};
+ghost use Prim.Native.Nat.{_+_, _*_, _≤_, _<_};
 ghost use lib.ListN.{length};
 ghost use Rattle.aes.specs.State.{shiftRows, invShiftRows, mixColumns, invMixColumns, addRoundKey};
 ghost use Rattle.aes.specs.Key.{roundKey};
@@ -99,7 +99,7 @@ pub(crate) fn unmixed(s: [u8; 16]) -> [u8; 16]
 }
 
 pub(crate) fn round_key(w: &[u8], r: usize) -> [u8; 16]
-    requires { ⌜ (r < 15) × (length (now w) ≡ 240) ⌝ }
+    requires { ⌜ (r < 15) × (16 * r + 16 ≤ length (now w)) ⌝ }
     ensures { λ k. ⌜ k ≡ roundKey (now (w .entry)) r ⌝ }
 {
     let mut k = [0u8; 16];

@@ -79,7 +79,7 @@ const INV_SBOX: [u8; 256] = *b"\
     \xa0\xe0\x3b\x4d\xae\x2a\xf5\xb0\xc8\xeb\xbb\x3c\x83\x53\x99\x61\
     \x17\x2b\x04\x7e\xba\x77\xd6\x26\xe1\x69\x14\x63\x55\x21\x0c\x7d";
 
-const ROUND_CONSTANTS: [u8; 7] = *b"\x01\x02\x04\x08\x10\x20\x40";
+const ROUND_CONSTANTS: [u8; 10] = *b"\x01\x02\x04\x08\x10\x20\x40\x80\x1b\x36";
 
 // The powers 0 to 254 of the generator 03.
 pub fn powers() -> [u8; 255]
@@ -109,9 +109,9 @@ pub fn inv_sbox() -> [u8; 256]
     INV_SBOX
 }
 
-// The round constants 1 to 7 of key expansion.
-pub fn round_constants() -> [u8; 7]
-    ensures { λ r. ⌜ r ≡ table (raise 0x02) 7 ⌝ }
+// The round constants 1 to 10 of key expansion.
+pub fn round_constants() -> [u8; 10]
+    ensures { λ r. ⌜ r ≡ table (raise 0x02) 10 ⌝ }
 {
     ROUND_CONSTANTS
 }

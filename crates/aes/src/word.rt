@@ -14,7 +14,7 @@ pub(crate) fn column(s: [u8; 16], c: usize) -> u32
     word(s[i], s[i + 1], s[i + 2], s[i + 3])
 }
 
-fn word(a: u8, b: u8, c: u8, d: u8) -> u32
+pub(crate) fn word(a: u8, b: u8, c: u8, d: u8) -> u32
     ensures { λ r. ⌜ wordOf r ≡ a ∷ b ∷ c ∷ d ∷ [] ⌝ }
 {
     ((d as u32 * 256 + c as u32) * 256 + b as u32) * 256 + a as u32
@@ -48,7 +48,7 @@ pub(crate) fn joined(a: u32, b: u32, c: u32, d: u32) -> [u8; 16]
     ]
 }
 
-fn bytes(x: u32) -> [u8; 4]
+pub(crate) fn bytes(x: u32) -> [u8; 4]
     ensures { λ r. ⌜ r ≡ wordOf x ⌝ }
 {
     [
@@ -76,7 +76,7 @@ pub(crate) fn inv_mix_column(x: u32) -> u32
     mix_column(x ^ fourfold(y))
 }
 
-fn rot_word(x: u32) -> u32
+pub(crate) fn rot_word(x: u32) -> u32
     ensures { λ r. ⌜ wordOf r ≡ rotWord (wordOf x) ⌝ }
 {
     (x >> 8) + (x << 24)

@@ -1,18 +1,16 @@
 -- Blocks by their entries, and the rows of blocks that CBC makes.
 -- Assumes nothing.
-use mathlib.Core.Path.{_≡_, refl, sym, ap, _∙_}
+use mathlib.Core.Path.{_≡_, refl, sym, _∙_}
 use mathlib.Core.Bool.{Bool, true, false, cond}
-use mathlib.Core.List.{List, [], _∷_}
-use borrow.Author.Tests.{eq-eqb}
+use mathlib.Core.List.{List}
 use Prim.Native.Nat.{ℕ, suc, _+_, _/_, _≤_, _<_}
 use native.Mathlib.Numerals.{add-one}
 use native.Mathlib.Omega.{arith}
 use lib.ListN.{length, take, drop, length-drop}
 use lib.Seq.{ext-getD, length-take-le, getD-take, getD-drop}
 use Rattle.aes.specs.Byte.{listed, table}
-use Rattle.aes.specs.State.{at, state, addRoundKey}
+use Rattle.aes.specs.State.{at, addRoundKey}
 use Rattle.aes.specs.Cipher.{cipher}
-use Rattle.aes.specs.Reply.{answer, isSchedule, isInput, isOutput}
 use Rattle.aes.proofs.Listed.{table-at, table-length}
 use Rattle.masks.specs.Mask.{inRow}
 use Rattle.masked.specs.Calls.{blockAt}
@@ -27,14 +25,6 @@ part-entries a xs h =
     let f : ℕ → ℕ = λ j. at xs (a + j) in
     ext-getD 0 (table f 16) (take 16 (drop a xs)) (table-length f 16 ∙ sym (part-size a xs h)) (λ j lt.
     let l : j < 16 = rw (table-length f 16) at lt in table-at f 16 j l ∙ sym (getD-take 16 (drop a xs) j 0 l ∙ getD-drop a xs j 0))
-
--- what a call of the plain engine has written where its lengths are right
-pub block-done : (w b : List ℕ) {x o : List ℕ} {r : ℕ} → length w ≡ 240 → length b ≡ 16
-    → _≡_ {A = ℕ × List ℕ} (r, o) (answer (isSchedule w ∷ isInput b ∷ isOutput (state (λ i. 0)) ∷ []) (state (λ i. 0)) x) → o ≡ x
-block-done w b lw lb told = written (told ∙ simp (eq-eqb (length w) 240 lw, eq-eqb (length b) 16 lb))
-  where
-    written : {r : ℕ} {o x : List ℕ} → _≡_ {A = ℕ × List ℕ} (r, o) (0, x) → o ≡ x
-    written e = ap (λ (p : ℕ × List ℕ). p .1) e
 
 -- the blocks that encryption makes
 abbrev pub links : (List ℕ → List ℕ) → List ℕ → List ℕ → ℕ → List ℕ

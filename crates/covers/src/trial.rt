@@ -1,6 +1,7 @@
 // What a line asks of a masked call, which is made again and again with other labels.
 ghost use mathlib.Core.Path.{_≡_};
 ghost use Prim.Native.Nat.{_-_};
+use crate::key::expanded;
 use crate::labels::Labels;
 use crate::labels::RECORDS;
 use crate::labels::turned;
@@ -9,6 +10,7 @@ use aes::reply::DONE;
 use lines::counts::Tally;
 use lines::reply;
 use lines::vector;
+use lines::vector::Length;
 use lines::vector::Way;
 use lines::vector::same_block;
 
@@ -26,6 +28,7 @@ pub struct Trial {
     asked: Asked,
     pub read: bool,
     pub left: usize,
+    pub length: Length,
     pub schedule: [u8; 240],
     pub masks: [u8; 16],
     pub block: [u8; 16],
@@ -34,16 +37,14 @@ pub struct Trial {
 }
 
 impl Trial {
-    // Where the key is refused, a schedule of zeros leads to differences.
     pub fn new(
         asked: Asked,
+        length: Length,
         key: [u8; 32],
         masks: [u8; 16],
         block: [u8; 16],
         end: [u8; 16],
     ) -> Trial {
-        let mut schedule = [0u8; 240];
-        aes::expand_key(&key, &mut schedule);
         let left = match asked {
             Asked::Block => RECORDS,
             Asked::Chain => 1000,
@@ -53,7 +54,8 @@ impl Trial {
             asked,
             read: true,
             left,
-            schedule,
+            length,
+            schedule: expanded(length, key),
             masks,
             block,
             end,
@@ -75,15 +77,16 @@ impl Trial {
     pub fn of_vector(asked: Asked, way: Way, line: &[u8]) -> Trial {
         let v = vector::read(line);
         let key = v.key;
+        let length = v.length;
         let cipher = v.cipher;
-        Trial::new(asked, key, unfit(cipher), v.start(way), v.end(way)).of_line(v.read)
+        Trial::new(asked, length, key, unfit(cipher), v.start(way), v.end(way)).of_line(v.read)
     }
 
     // The reply depends neither on the key nor on the block and the masks: these are zeros.
     pub fn of_step(line: &[u8]) -> Trial {
         let expected = reply::read(line);
         let asked = Asked::Reply(expected.step, expected.reply);
-        Trial::new(asked, [0; 32], [0; 16], [0; 16], [0; 16]).of_line(expected.read)
+        Trial::new(asked, Length::Long, [0; 32], [0; 16], [0; 16], [0; 16]).of_line(expected.read)
     }
 
     // The labels of the next call.

@@ -45,7 +45,9 @@ pub fn read(text: &[u8]) -> Row {
 pub fn shares_key(first: Vector, next: Vector) -> bool {
     let key = first.key;
     let other = next.key;
-    next.read & same(&key, &other)
+    let length = first.length;
+    let other_length = next.length;
+    next.read & (length.key() == other_length.key()) & same(&key, &other)
 }
 
 // With the blocks of a vector at the place k.

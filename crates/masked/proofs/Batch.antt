@@ -1,6 +1,7 @@
 -- Many blocks in one call: what its checks tell of each block, and why each comes out as in a call of its own.
 -- Assumes nothing.
 use mathlib.Core.Path.{_≡_, ap, sym, subst, _∙_}
+use mathlib.Core.Bool.{true}
 use mathlib.Core.List.{List}
 use Prim.Native.Nat.{ℕ, _*_, _/_, _%_, _<_}
 use native.Mathlib.Omega.{arith}
@@ -10,10 +11,10 @@ use lib.Seq.{length-take-le}
 use mir.Facts.{and-yes}
 use borrow.Author.Tests.{le-leb}
 use Rattle.aes.specs.State.{at}
-use Rattle.aes.specs.Reply.{refusal}
+use Rattle.aes.specs.Reply.{refusal, scheduled}
 use Rattle.aes.specs.Byte.{below}
 use Rattle.aes.proofs.Below.{below-all}
-use Rattle.aes.proofs.Replies.{AllHold, telling, holds-done, all-hold}
+use Rattle.aes.proofs.Replies.{AllHold, telling, holds-done, all-hold, is-true}
 use Rattle.masks.specs.Mask.{one, inRow}
 use Rattle.masked.specs.Calls.{publishedChecks, blockAt, blocksChecks, encryptPublishedOf}
 use Rattle.starts.specs.Each.{inTurn}
@@ -29,7 +30,7 @@ one-low o = subst T (sym (below-all (λ j. leb (at (one o) j) 15) 16 (λ j h. le
 
 -- what the checks tell of a call that they let pass
 pub record Passed (w b out offsets : List ℕ) (d form : ℕ) : Type 0 where
-  pub schedule : length w ≡ 240
+  pub schedule : scheduled (length w) ≡ true
   pub input : length b ≡ 16 * length offsets
   pub output : length out ≡ 16 * length offsets
   pub blocks : length b / 16 ≡ length offsets
@@ -45,7 +46,7 @@ passed-blocks w b out offsets d form told e =
     let lb : length b ≡ 16 * length offsets = omega (arith, whole, n) in
     let lo : length out ≡ 16 * length offsets = long ∙ lb in
     record {
-      schedule = eqb→eq (length w) 240 (h .0);
+      schedule = is-true (scheduled (length w)) (h .0);
       input = lb;
       output = lo;
       blocks = sym n;

@@ -3,14 +3,16 @@
 use mathlib.Core.Path.{_≡_, refl, sym, ap, _∙_}
 use mathlib.Core.Bool.{Bool, true, false, cond}
 use mathlib.Core.List.{List, [], _∷_, _++_}
-use Prim.Native.Nat.{ℕ, _%_}
+use Prim.Native.Nat.{ℕ, _+_, _*_, _%_}
 use lib.Dec.{T, eqb, leb, eqb→eq, lit≤}
 use lib.ListN.{length}
-use Rattle.aes.specs.Reply.{Check, _else_, answer, refusal, isSchedule, isInput, isOutput, isMaskTable, hasByteOffsets, areOffsets, isStep, isForm}
+use Rattle.aes.specs.Reply.{Check, _else_, answer, refusal, scheduled, roundsFor, isSchedule, isInput, isOutput, isMaskTable, hasByteOffsets, areOffsets, isStep, isForm}
 use Rattle.aes.specs.Byte.{below}
 use Rattle.aes.specs.State.{at}
+use Rattle.aes.specs.Key.{roundsOf}
 use Rattle.aes.proofs.Below.{under}
-use Rattle.aes.proofs.Replies.{AllHold, telling, all-hold, holds-done}
+use Rattle.aes.proofs.Schedule.{known, full}
+use Rattle.aes.proofs.Replies.{AllHold, telling, all-hold, holds-done, is-true}
 use Rattle.masks.specs.Mask.{one}
 use Rattle.lent.specs.declared.given.Start.{Start}
 use Rattle.lent.specs.Started.{isOne, recordOf, Begun}
@@ -29,7 +31,7 @@ twice false m n cs ds = refl
 -- what is checked where no masks are lent, and the input stands for them
 pub published-refusal : (w b out v : List ℕ) (d form : ℕ) → refusal (checks w b out b v d form) ≡ refusal (publishedChecks w b out v d form)
 published-refusal w b out v d form =
-    ap (λ (r : ℕ). cond (eqb (length w) 240) r 2) (twice (eqb (length b) 16) 3 5 (isOutput out ∷ []) (hasByteOffsets v ∷ areOffsets v ∷ isStep d ∷ isForm form ∷ []))
+    ap (λ (r : ℕ). cond (scheduled (length w)) r 2) (twice (eqb (length b) 16) 3 5 (isOutput out ∷ []) (hasByteOffsets v ∷ areOffsets v ∷ isStep d ∷ isForm form ∷ []))
 
 -- what a record checks before its own length, where no output is lent and the input stands for it
 abbrev pub recordFirst : List ℕ → List ℕ → List ℕ → List ℕ → ℕ → List Check
@@ -38,7 +40,7 @@ recordFirst schedule input masks offsets step =
 
 pub record-refusal : (w b M v : List ℕ) (d : ℕ) → refusal (checks w b b M v d 0) ≡ refusal (recordFirst w b M v d)
 record-refusal w b M v d =
-    ap (λ (r : ℕ). cond (eqb (length w) 240) r 2) (twice (eqb (length b) 16) 3 4 [] (isMaskTable M ∷ hasByteOffsets v ∷ areOffsets v ∷ isStep d ∷ []))
+    ap (λ (r : ℕ). cond (scheduled (length w)) r 2) (twice (eqb (length b) 16) 3 4 [] (isMaskTable M ∷ hasByteOffsets v ∷ areOffsets v ∷ isStep d ∷ []))
 
 -- checks that are told together, and one more
 pub first-fails : (cs ds : List Check) → (refusal cs ≡ 0 → ⊥) → refusal cs ≡ refusal (cs ++ ds)
@@ -60,7 +62,7 @@ offsets-low v t u =
 
 -- and the lengths
 pub record Sizes (w b out M v : List ℕ) : Type 0 where
-  pub schedule : length w ≡ 240
+  pub schedule : scheduled (length w) ≡ true
   pub input : length b ≡ 16
   pub output : length out ≡ 16
   pub masks : length M ≡ 16
@@ -71,7 +73,7 @@ unfolding AllHold telling
 sizes w b out M v d form told e =
     let h = all-hold (checks w b out M v d form) tt (sym told ∙ e) in
     record {
-      schedule = eqb→eq (length w) 240 (h .0);
+      schedule = is-true (scheduled (length w)) (h .0);
       input = eqb→eq (length b) 16 (h .1 .0);
       output = eqb→eq (length out) 16 (h .1 .1 .0);
       masks = eqb→eq (length M) 16 (h .1 .1 .1 .0);
@@ -79,7 +81,7 @@ sizes w b out M v d form told e =
     }
 
 pub record RecordSizes (w b M v states : List ℕ) (size : ℕ) : Type 0 where
-  pub schedule : length w ≡ 240
+  pub schedule : scheduled (length w) ≡ true
   pub input : length b ≡ 16
   pub masks : length M ≡ 16
   pub offsets : Low v
@@ -90,7 +92,7 @@ unfolding AllHold telling
 record-sizes size w b M v d states told e =
     let h = all-hold (recordChecks size w b M v d states) tt (sym told ∙ e) in
     record {
-      schedule = eqb→eq (length w) 240 (h .0);
+      schedule = is-true (scheduled (length w)) (h .0);
       input = eqb→eq (length b) 16 (h .1 .0);
       masks = eqb→eq (length M) 16 (h .1 .1 .0);
       offsets = offsets-low v (h .1 .1 .1 .0) (h .1 .1 .1 .1 .0);
@@ -113,7 +115,7 @@ answered cs t out f told e start done = (λ i. (0, (done ∙ ap f start) i)) ∙
 
 -- of one block
 module _ (w b out M v : List ℕ) (d form : ℕ) {r : ℕ} (told : r ≡ refusal (checks w b out M v d form)) (e : r ≡ 0) (s : Start) (from : FromLent s v) where
-  pub block-lent : (length w ≡ 240) × (length b ≡ 16) × (length out ≡ 16) × Begun s × (length M ≡ 16)
+  pub block-lent : (scheduled (length w) ≡ true) × (length b ≡ 16) × (length out ≡ 16) × Begun s × (length M ≡ 16)
   block-lent = let z = sizes w b out M v d form told e in (z .schedule, z .input, z .output, begun-lent s v from, z .masks)
 
   pub block-answer : (f : List ℕ → List ℕ) {x : List ℕ} → x ≡ f (recordOf s) → (0, x) ≡ answer (checks w b out M v d form) out (f v)
@@ -122,7 +124,7 @@ module _ (w b out M v : List ℕ) (d form : ℕ) {r : ℕ} (told : r ≡ refusal
 
 -- of a record
 module _ (size : ℕ) (w b M v : List ℕ) (d : ℕ) (states : List ℕ) {r : ℕ} (told : r ≡ refusal (recordChecks size w b M v d states)) (e : r ≡ 0) (s : Start) (from : FromLent s v) where
-  pub states-lent : (length w ≡ 240) × (length b ≡ 16) × (length states ≡ size) × Begun s × (length M ≡ 16)
+  pub states-lent : (scheduled (length w) ≡ true) × (length b ≡ 16) × (length states ≡ size) × Begun s × (length M ≡ 16)
   states-lent = let z = record-sizes size w b M v d states told e in (z .schedule, z .input, z .room, begun-lent s v from, z .masks)
 
   pub states-answer : (f : List ℕ → List ℕ) {x : List ℕ} → x ≡ f (recordOf s) → (0, x) ≡ answer (recordChecks size w b M v d states) states (f v)
@@ -131,8 +133,11 @@ module _ (size : ℕ) (w b M v : List ℕ) (d : ℕ) (states : List ℕ) {r : �
 
 -- with one offset
 module _ (w b out : List ℕ) (o : ℕ) {r : ℕ} (told : r ≡ refusal (oneChecks w b out o)) (e : r ≡ 0) (s : Start) (from : (s .0 ≡ true) × (s .1 .0 ≡ one 0) × (s .2 .0 ≡ o % 16)) where
-  pub one-lent : (length w ≡ 240) × (length b ≡ 16) × (length out ≡ 16) × Begun s
-  one-lent = let z = one-sizes w b out o told e in (z .0, z .1, z .2, begun-one s o from)
+  pub one-lent : (scheduled (length w) ≡ true) × (length b ≡ 16) × (length out ≡ 16) × Begun s
+  one-lent = let z = one-sizes w b out o told e in (full w (z .0) .0, z .1, z .2, begun-one s o from)
+
+  pub one-rounds : roundsOf w ≡ 14
+  one-rounds = full w (one-sizes w b out o told e .0) .1
 
   pub one-answer : (f : List ℕ → List ℕ) {x : List ℕ} → x ≡ f (recordOf s) → (0, x) ≡ answer (oneChecks w b out o) out (f (one o))
   unfolding telling

@@ -1,12 +1,12 @@
 -- What each call of the masked engine answers for every input: its reply, and what the lent buffer holds then.
 -- Assumes nothing.
 use mathlib.Core.List.{List, [], _∷_}
-use Prim.Native.Nat.{ℕ, _*_, _/_}
-use lib.Dec.{eqb}
+use Prim.Native.Nat.{ℕ, _+_, _*_, _/_}
 use lib.ListN.{length, take, drop}
 use Rattle.aes.specs.State.{at}
+use Rattle.aes.specs.Key.{roundsOf}
 use Rattle.aes.specs.Record.{bytes}
-use Rattle.aes.specs.Reply.{Check, _else_, answer, isSchedule, isFullSchedule, isInput, isOutput, isMaskTable, isOffset, hasByteOffsets, isStep, isForm, areBlocks, isAsLong, hasOffsets, areOffsets}
+use Rattle.aes.specs.Reply.{Check, answer, isSchedule, isFullSchedule, isInput, isOutput, isMaskTable, isOffset, hasByteOffsets, isStep, isForm, isRecordOf, areBlocks, isAsLong, hasOffsets, areOffsets}
 use Rattle.masks.specs.Mask.{published, one, inRow}
 use Rattle.runs.specs.Run.{maskedRecord, maskedCipher}
 use Rattle.runs.specs.Back.{maskedBackRecord, maskedInvCipher}
@@ -23,7 +23,7 @@ publishedChecks schedule input output offsets step form =
 
 abbrev pub encryptPublishedOf : List ℕ → List ℕ → List ℕ → List ℕ → ℕ → ℕ → ℕ × List ℕ
 encryptPublishedOf schedule input output offsets step form =
-    answer (publishedChecks schedule input output offsets step form) output (maskedCipher 14 published offsets step schedule input)
+    answer (publishedChecks schedule input output offsets step form) output (maskedCipher (roundsOf schedule) published offsets step schedule input)
 
 -- block k of many
 abbrev pub blockAt : ℕ → List ℕ → List ℕ
@@ -41,16 +41,16 @@ encryptBlocksOf schedule input output offsets step form =
 
 abbrev pub encryptMaskedOf : List ℕ → List ℕ → List ℕ → List ℕ → List ℕ → ℕ → ℕ → ℕ × List ℕ
 encryptMaskedOf schedule input output masks offsets step form =
-    answer (checks schedule input output masks offsets step form) output (maskedCipher 14 masks offsets step schedule input)
+    answer (checks schedule input output masks offsets step form) output (maskedCipher (roundsOf schedule) masks offsets step schedule input)
 
 -- what a record of so many bytes checks
 abbrev pub recordChecks : ℕ → List ℕ → List ℕ → List ℕ → List ℕ → ℕ → List ℕ → List Check
 recordChecks size schedule input masks offsets step states =
-    isSchedule schedule ∷ isInput input ∷ isMaskTable masks ∷ hasByteOffsets offsets ∷ areOffsets offsets ∷ isStep step ∷ (eqb (length states) size else 8) ∷ []
+    isSchedule schedule ∷ isInput input ∷ isMaskTable masks ∷ hasByteOffsets offsets ∷ areOffsets offsets ∷ isStep step ∷ isRecordOf size states ∷ []
 
 abbrev pub recordMaskedOf : List ℕ → List ℕ → List ℕ → List ℕ → ℕ → List ℕ → ℕ × List ℕ
 recordMaskedOf schedule input masks offsets step states =
-    answer (recordChecks 1136 schedule input masks offsets step states) states (bytes (maskedRecord 14 masks offsets step schedule input))
+    answer (recordChecks (16 * (5 * roundsOf schedule + 1)) schedule input masks offsets step states) states (bytes (maskedRecord (roundsOf schedule) masks offsets step schedule input))
 
 -- what a decryption with any masks checks, and one with the published masks
 abbrev pub backChecks : List ℕ → List ℕ → List ℕ → List ℕ → List ℕ → ℕ → List Check
@@ -63,18 +63,17 @@ publishedBackChecks schedule input output offsets step =
 
 abbrev pub decryptPublishedOf : List ℕ → List ℕ → List ℕ → List ℕ → ℕ → ℕ × List ℕ
 decryptPublishedOf schedule input output offsets step =
-    answer (publishedBackChecks schedule input output offsets step) output (maskedInvCipher 14 published offsets step schedule input)
+    answer (publishedBackChecks schedule input output offsets step) output (maskedInvCipher (roundsOf schedule) published offsets step schedule input)
 
 abbrev pub decryptMaskedOf : List ℕ → List ℕ → List ℕ → List ℕ → List ℕ → ℕ → ℕ × List ℕ
 decryptMaskedOf schedule input output masks offsets step =
-    answer (backChecks schedule input output masks offsets step) output (maskedInvCipher 14 masks offsets step schedule input)
+    answer (backChecks schedule input output masks offsets step) output (maskedInvCipher (roundsOf schedule) masks offsets step schedule input)
 
--- 85 states
 abbrev pub recordMaskedDecryptionOf : List ℕ → List ℕ → List ℕ → List ℕ → ℕ → List ℕ → ℕ × List ℕ
 recordMaskedDecryptionOf schedule input masks offsets step states =
-    answer (recordChecks 1360 schedule input masks offsets step states) states (bytes (maskedBackRecord 14 masks offsets step schedule input))
+    answer (recordChecks (16 * (6 * roundsOf schedule + 1)) schedule input masks offsets step states) states (bytes (maskedBackRecord (roundsOf schedule) masks offsets step schedule input))
 
--- One block for callers that keep one offset, with the published masks and step 1.
+-- One block for callers that keep to one offset and fourteen rounds, with the published masks and step 1.
 abbrev pub sealedOne : ℕ → List ℕ → List ℕ → List ℕ
 sealedOne offset schedule input = maskedCipher 14 published (one offset) 1 schedule input
 

@@ -9,6 +9,7 @@ use lines::c3;
 use lines::c3::block;
 use lines::c3::key;
 use lines::counts::CELLS;
+use lines::vector::Length;
 use lines::vector::Way;
 
 pub fn state(way: Way, line: &[u8], counts: &mut [u64; CELLS]) -> bool {
@@ -47,7 +48,14 @@ fn again(way: Way, place: usize) -> usize {
 
 // Over the published masks, and over others.
 fn at_place(way: Way, place: usize, state: [u8; 16], counts: &mut [u64; CELLS]) {
-    let trial = Trial::new(Asked::Block, key(), mask::published(), block(way), state);
+    let trial = Trial::new(
+        Asked::Block,
+        Length::Long,
+        key(),
+        mask::published(),
+        block(way),
+        state,
+    );
     tried(way, place, trial, row(way, false), counts);
     let mut other = trial;
     let masks = mask::unfit(state);

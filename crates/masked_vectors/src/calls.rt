@@ -2,6 +2,7 @@
 ghost use mathlib.Core.Path.{_≡_};
 ghost use Prim.Native.Nat.{_-_};
 use crate::many;
+use covers::key::lent;
 use covers::trial::Trial;
 use lines::counts::CELLS;
 use lines::counts::add;
@@ -19,7 +20,9 @@ pub enum Call {
 fn answered(call: Call, trial: Trial) -> Trial
     ensures { λ r. ⌜ r .left ≡ trial .left - 1 ⌝ }
 {
-    let schedule = trial.schedule;
+    let w = trial.schedule;
+    let length = trial.length;
+    let schedule = lent(&w, length);
     let masks = trial.masks;
     let block = trial.block;
     let labels = trial.labels();
@@ -27,9 +30,9 @@ fn answered(call: Call, trial: Trial) -> Trial
     let step = labels.step;
     let mut output = [0xa5u8; 16];
     let reply = match call {
-        Call::Published => encrypt_published(&schedule, &block, &mut output, &offsets, step, 0),
-        Call::Masked => encrypt_masked(&schedule, &block, &mut output, &masks, &offsets, step, 0),
-        Call::Many => many::answer(&schedule, &[0; 256], labels, &mut [0; 256]),
+        Call::Published => encrypt_published(schedule, &block, &mut output, &offsets, step, 0),
+        Call::Masked => encrypt_masked(schedule, &block, &mut output, &masks, &offsets, step, 0),
+        Call::Many => many::answer(schedule, &[0; 256], labels, &mut [0; 256]),
     };
     trial.after(reply, output)
 }

@@ -31,10 +31,21 @@ fn main() {
 // One by one, and all of a row together.
 fn ecb(text: &[u8], counts: &mut [u64; CELLS]) -> bool {
     let trial = Trial::of_vector(Asked::Block, Way::Encrypt, part(text, 0, b'\n'));
+    let length = trial.length;
+    let k = length.row();
     if trial.read {
-        add(counts, table::MANY_ECB, many::encrypted(row::read(text)));
+        add(
+            counts,
+            table::MANY_ECB + k,
+            many::encrypted(row::read(text)),
+        );
     }
-    either(trial, table::PUBLISHED_ECB, table::OTHER_ECB, counts)
+    either(
+        trial,
+        table::PUBLISHED_ECB + k,
+        table::OTHER_ECB + k,
+        counts,
+    )
 }
 
 // By each call.

@@ -1,28 +1,30 @@
 // The call that encrypts many blocks.
 use aes::reply::DONE;
 use check::same;
+use covers::key::expanded;
+use covers::key::lent;
 use covers::labels::ALL;
 use covers::labels::Labels;
 use covers::labels::turned;
 use lines::counts::Tally;
 use lines::row::Row;
 
-// All vectors of a row in one call, with all labels of the first. Where the key is refused, a schedule of zeros leads to differences.
+// All vectors of a row in one call, with all labels of the first.
 pub fn encrypted(row: Row) -> Tally {
     let first = row.first;
     let key = first.key;
-    let mut schedule = [0u8; 240];
-    aes::expand_key(&key, &mut schedule);
+    let length = first.length;
+    let schedule = expanded(length, key);
     let mut tally = Tally::none();
     let mut i = 0;
     while i < ALL {
-        tally = tally.with(encrypts(&schedule, turned(i), row));
+        tally = tally.with(encrypts(lent(&schedule, length), turned(i), row));
         i += 1;
     }
     tally
 }
 
-fn encrypts(schedule: &[u8; 240], labels: Labels, row: Row) -> bool {
+fn encrypts(schedule: &[u8], labels: Labels, row: Row) -> bool {
     let plain = row.plain;
     let cipher = row.cipher;
     let mut output = [0u8; 256];
@@ -31,6 +33,6 @@ fn encrypts(schedule: &[u8; 240], labels: Labels, row: Row) -> bool {
 }
 
 // What the call replies.
-pub fn answer(schedule: &[u8; 240], input: &[u8; 256], labels: Labels, output: &mut [u8]) -> u8 {
+pub fn answer(schedule: &[u8], input: &[u8; 256], labels: Labels, output: &mut [u8]) -> u8 {
     masked::encrypt_blocks(schedule, input, output, &labels.offsets(), labels.step, 0)
 }

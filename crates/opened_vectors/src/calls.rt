@@ -1,6 +1,7 @@
 // The calls that decrypt a block, with the published masks and with others.
 ghost use mathlib.Core.Path.{_≡_};
 ghost use Prim.Native.Nat.{_-_};
+use covers::key::lent;
 use covers::trial::Trial;
 use lines::counts::CELLS;
 use lines::counts::add;
@@ -11,7 +12,9 @@ use masked::decrypt_published;
 fn answered(other: bool, trial: Trial) -> Trial
     ensures { λ r. ⌜ r .left ≡ trial .left - 1 ⌝ }
 {
-    let schedule = trial.schedule;
+    let w = trial.schedule;
+    let length = trial.length;
+    let schedule = lent(&w, length);
     let masks = trial.masks;
     let block = trial.block;
     let labels = trial.labels();
@@ -19,9 +22,9 @@ fn answered(other: bool, trial: Trial) -> Trial
     let step = labels.step;
     let mut output = [0xa5u8; 16];
     let reply = if other {
-        decrypt_masked(&schedule, &block, &mut output, &masks, &offsets, step)
+        decrypt_masked(schedule, &block, &mut output, &masks, &offsets, step)
     } else {
-        decrypt_published(&schedule, &block, &mut output, &offsets, step)
+        decrypt_published(schedule, &block, &mut output, &offsets, step)
     };
     trial.after(reply, output)
 }

@@ -24,18 +24,26 @@ fn main() {
     table::print(&counts);
 }
 
+// In the rows of its key's length.
+fn ecb(line: &[u8], counts: &mut [u64; CELLS]) -> bool {
+    let trial = Trial::of_vector(Asked::Block, Way::Decrypt, line);
+    let length = trial.length;
+    let k = length.row();
+    either(
+        trial,
+        table::PUBLISHED_ECB + k,
+        table::OTHER_ECB + k,
+        counts,
+    )
+}
+
 // Runs the first line of a text, and answers whether it could be read.
 fn one_line(text: &[u8], counts: &mut [u64; CELLS]) -> bool {
     let line = part(text, 0, b'\n');
     let kind = kind_of(line, counts);
     match kind {
         Kind::Header => true,
-        Kind::Ecb => either(
-            Trial::of_vector(Asked::Block, Way::Decrypt, line),
-            table::PUBLISHED_ECB,
-            table::OTHER_ECB,
-            counts,
-        ),
+        Kind::Ecb => ecb(line, counts),
         Kind::DecryptedChain => either(
             Trial::of_vector(Asked::Chain, Way::Decrypt, line),
             table::PUBLISHED_CHAINS,

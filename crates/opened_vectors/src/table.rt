@@ -1,24 +1,28 @@
-// The rows of the table, and the table before anything is counted.
+// The rows of the table, of which the vectors of ECB have one for each length of a key, and the table before anything is counted.
 use lines::counts::CELLS;
 use lines::counts::print_table;
 
 pub const PUBLISHED_ECB: usize = 0;
 
-pub const PUBLISHED_CHAINS: usize = 1;
+pub const PUBLISHED_CHAINS: usize = 3;
 
-pub const OTHER_ECB: usize = 2;
+pub const OTHER_ECB: usize = 4;
 
-pub const OTHER_CHAINS: usize = 3;
+pub const OTHER_CHAINS: usize = 7;
 
-pub const STEPS: usize = 4;
+pub const STEPS: usize = 8;
 
 pub fn print(counts: &[u64; CELLS]) {
     let mut table = *b"\
-AES-256 vectors, masked decryption             run   differ
-  published masks: NIST ECB, decrypted           0        0
-  published masks: chains, decrypted             0        0
-  other masks: NIST ECB, decrypted               0        0
-  other masks: chains, decrypted                 0        0
+AES vectors, masked decryption                 run   differ
+  published masks: NIST ECB, 128 bits            0        0
+  published masks: NIST ECB, 192 bits            0        0
+  published masks: NIST ECB, 256 bits            0        0
+  published masks: chains                        0        0
+  other masks: NIST ECB, 128 bits                0        0
+  other masks: NIST ECB, 192 bits                0        0
+  other masks: NIST ECB, 256 bits                0        0
+  other masks: chains                            0        0
   replies to a step                              0        0
   all                                            0        0
 lines that could not be read                     0

@@ -37,9 +37,9 @@ backSteps n w b rows columns p o d end (back.unmixed r) s = invMixColumns s
 backSteps n w b rows columns p o d end (back.restored r) s = s ⊞ sixteen columns ((o + d * suc r) % 16)
 backSteps n w b rows columns p o d end (back.uncovered r) s = s ⊞ end
 
--- point n after the covered block
-unfoldable pub pointAfter : ℕ → Point
-pointAfter n = getD (five (n / 5)) (n % 5) block
+-- point m after the covered block of n rounds
+unfoldable pub pointAfter : ℕ → ℕ → Point
+pointAfter n m = getD (five n (m / 5)) (m % 5) block
 
 -- point m after the covered block of a decryption, except for the last, which uncovers: the first is the first key
 abbrev pub around : ℕ → List Back

@@ -7,10 +7,7 @@ pub(crate) struct Round(usize);
 impl Round {
     pub(crate) const FIRST: Round = Round(0);
 
-    // How many there are: after the last, one key more is added and one mask more is left.
-    pub(crate) const END: Round = Round(14);
-
-    // The number of a run's rounds, with which a decryption begins.
+    // The number of a run's rounds, with which a decryption begins; after the last, one key more is added and one mask more is left.
     pub(crate) fn last(n: usize) -> Round
         ensures { λ r. ⌜ r .0 ≡ n ⌝ }
     {

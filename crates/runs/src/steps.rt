@@ -50,11 +50,11 @@ impl Covered {
         r.read() == Round::FIRST.read()
     }
 
-    pub(crate) fn finished(self) -> bool
-        ensures { λ r. ⌜ r ≡ eqb (self .round .0) 14 ⌝ }
+    pub(crate) fn finished(self, end: Round) -> bool
+        ensures { λ r. ⌜ r ≡ eqb (self .round .0) (end .0) ⌝ }
     {
         let r = self.round;
-        r.read() == Round::END.read()
+        r.read() == end.read()
     }
 }
 
@@ -177,9 +177,9 @@ pub(crate) fn compensate(
     Covered::kept(l, s.round, add(b, sixteen(lent, l.read())), part)
 }
 
-// After the last round alone.
-pub(crate) fn uncover(s: Covered, masks: Masks, covers: &[u8; 256], part: &mut [u8])
-    requires { ⌜ (s .label .0 < 16) × (s .round .0 ≡ 14) × (length (now part) ≡ 16) × (now covers ≡ coversOf (masks .0) (masks .2 .0)) ⌝ }
+// After the last round alone: no key of the schedule is left.
+pub(crate) fn uncover(s: Covered, w: &[u8], masks: Masks, covers: &[u8; 256], part: &mut [u8])
+    requires { ⌜ (s .label .0 < 16) × (16 * s .round .0 + 16 ≡ length (now w)) × (length (now part) ≡ 16) × (now covers ≡ coversOf (masks .0) (masks .2 .0)) ⌝ }
     ensures { λ _. ⌜ now (part .exit) ≡ s .bytes ⊞ shiftRows (mask (masks .0) (masks .2 .0) (s .label .0)) ⌝ }
 {
     let b = s.bytes;

@@ -1,6 +1,10 @@
 // With sixteen lent masks, whose tables are worked out before the block is read.
+ghost use mathlib.Core.Bool.{true};
 ghost use mathlib.Core.Path.{_≡_};
+ghost use Prim.Native.Nat.{_+_, _*_};
 ghost use lib.ListN.{length};
+ghost use Rattle.aes.specs.Key.{roundsOf};
+ghost use Rattle.aes.specs.Reply.{scheduled};
 ghost use Rattle.aes.specs.Record.{bytes};
 ghost use Rattle.lent.specs.Started.{recordOf, Begun};
 ghost use Rattle.runs.specs.Run.{maskedCipher, maskedRecord};
@@ -14,7 +18,7 @@ use lent::given::Masks;
 use lent::given::Start;
 use masks::constants::Kind;
 
-// The finished block, and the 71 states.
+// The finished block, and the states.
 pub fn encrypted(
     schedule: &[u8],
     input: &[u8],
@@ -23,8 +27,8 @@ pub fn encrypted(
     step: u8,
     start: Start,
 )
-    requires { ⌜ (length (now schedule) ≡ 240) × (length (now input) ≡ 16) × (length (now output) ≡ 16) × Begun start × (length (now masks) ≡ 16) ⌝ }
-    ensures { λ _. ⌜ now (output .exit) ≡ maskedCipher 14 (now (masks .entry)) (recordOf start) step (now (schedule .entry)) (now (input .entry)) ⌝ }
+    requires { ⌜ (scheduled (length (now schedule)) ≡ true) × (length (now input) ≡ 16) × (length (now output) ≡ 16) × Begun start × (length (now masks) ≡ 16) ⌝ }
+    ensures { λ _. ⌜ now (output .exit) ≡ maskedCipher (roundsOf (now (schedule .entry))) (now (masks .entry)) (recordOf start) step (now (schedule .entry)) (now (input .entry)) ⌝ }
 {
     let masks = Masks::lent(Caller {}, masks, step, start);
     let mut boxes = [0u8; 4096];
@@ -53,8 +57,8 @@ pub fn recorded(
     step: u8,
     start: Start,
 )
-    requires { ⌜ (length (now schedule) ≡ 240) × (length (now input) ≡ 16) × (length (now states) ≡ 1136) × Begun start × (length (now masks) ≡ 16) ⌝ }
-    ensures { λ _. ⌜ now (states .exit) ≡ bytes (maskedRecord 14 (now (masks .entry)) (recordOf start) step (now (schedule .entry)) (now (input .entry))) ⌝ }
+    requires { ⌜ (scheduled (length (now schedule)) ≡ true) × (length (now input) ≡ 16) × (length (now states) ≡ 80 * roundsOf (now schedule) + 16) × Begun start × (length (now masks) ≡ 16) ⌝ }
+    ensures { λ _. ⌜ now (states .exit) ≡ bytes (maskedRecord (roundsOf (now (schedule .entry))) (now (masks .entry)) (recordOf start) step (now (schedule .entry)) (now (input .entry))) ⌝ }
 {
     let masks = Masks::lent(Caller {}, masks, step, start);
     let mut boxes = [0u8; 4096];
@@ -75,7 +79,7 @@ pub fn recorded(
     );
 }
 
-// The same of a decryption, whose states are 85.
+// The same of a decryption.
 pub fn decrypted(
     schedule: &[u8],
     input: &[u8],
@@ -84,8 +88,8 @@ pub fn decrypted(
     step: u8,
     start: Start,
 )
-    requires { ⌜ (length (now schedule) ≡ 240) × (length (now input) ≡ 16) × (length (now output) ≡ 16) × Begun start × (length (now masks) ≡ 16) ⌝ }
-    ensures { λ _. ⌜ now (output .exit) ≡ maskedInvCipher 14 (now (masks .entry)) (recordOf start) step (now (schedule .entry)) (now (input .entry)) ⌝ }
+    requires { ⌜ (scheduled (length (now schedule)) ≡ true) × (length (now input) ≡ 16) × (length (now output) ≡ 16) × Begun start × (length (now masks) ≡ 16) ⌝ }
+    ensures { λ _. ⌜ now (output .exit) ≡ maskedInvCipher (roundsOf (now (schedule .entry))) (now (masks .entry)) (recordOf start) step (now (schedule .entry)) (now (input .entry)) ⌝ }
 {
     let masks = Masks::lent(Caller {}, masks, step, start);
     let mut boxes = [0u8; 4096];
@@ -117,8 +121,8 @@ pub fn decryption_recorded(
     step: u8,
     start: Start,
 )
-    requires { ⌜ (length (now schedule) ≡ 240) × (length (now input) ≡ 16) × (length (now states) ≡ 1360) × Begun start × (length (now masks) ≡ 16) ⌝ }
-    ensures { λ _. ⌜ now (states .exit) ≡ bytes (maskedBackRecord 14 (now (masks .entry)) (recordOf start) step (now (schedule .entry)) (now (input .entry))) ⌝ }
+    requires { ⌜ (scheduled (length (now schedule)) ≡ true) × (length (now input) ≡ 16) × (length (now states) ≡ 96 * roundsOf (now schedule) + 16) × Begun start × (length (now masks) ≡ 16) ⌝ }
+    ensures { λ _. ⌜ now (states .exit) ≡ bytes (maskedBackRecord (roundsOf (now (schedule .entry))) (now (masks .entry)) (recordOf start) step (now (schedule .entry)) (now (input .entry))) ⌝ }
 {
     let masks = Masks::lent(Caller {}, masks, step, start);
     let mut boxes = [0u8; 4096];

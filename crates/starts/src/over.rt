@@ -1,7 +1,11 @@
 // Masked runs over boxes, and over covers and constants at the offsets of 0. These stay as they are where the start is of one offset; at
 // any other offsets they are worked out anew, before the block is read.
+ghost use mathlib.Core.Bool.{true};
 ghost use mathlib.Core.Path.{_≡_};
+ghost use Prim.Native.Nat.{_+_, _*_};
 ghost use lib.ListN.{length};
+ghost use Rattle.aes.specs.Key.{roundsOf};
+ghost use Rattle.aes.specs.Reply.{scheduled};
 ghost use Rattle.aes.specs.Box.{sBox, invSBox};
 ghost use Rattle.aes.specs.Record.{bytes};
 ghost use Rattle.masks.specs.Mask.{one, coversOf, maskedBoxes, compensation, afterRows, afterColumns, constants};
@@ -27,8 +31,8 @@ pub(crate) fn encrypted_over(
     covers: &mut [u8; 256],
     compensations: &mut [u8; 256],
 )
-    requires { ⌜ (length (now schedule) ≡ 240) × (length (now input) ≡ 16) × (length (now output) ≡ 16) × Begun start × Started masks start × (now boxes ≡ maskedBoxes sBox (masks .0) (masks .1)) × (now covers ≡ coversOf (masks .0) (one 0)) × (now compensations ≡ constants compensation (masks .0) (one 0)) ⌝ }
-    ensures { λ _. ⌜ now (output .exit) ≡ maskedCipher 14 (masks .0) (recordOf start) (masks .1) (now (schedule .entry)) (now (input .entry)) ⌝ }
+    requires { ⌜ (scheduled (length (now schedule)) ≡ true) × (length (now input) ≡ 16) × (length (now output) ≡ 16) × Begun start × Started masks start × (now boxes ≡ maskedBoxes sBox (masks .0) (masks .1)) × (now covers ≡ coversOf (masks .0) (one 0)) × (now compensations ≡ constants compensation (masks .0) (one 0)) ⌝ }
+    ensures { λ _. ⌜ now (output .exit) ≡ maskedCipher (roundsOf (now (schedule .entry))) (masks .0) (recordOf start) (masks .1) (now (schedule .entry)) (now (input .entry)) ⌝ }
 {
     let mut places = first_places();
     masks.laid(&mut places, covers);
@@ -36,6 +40,7 @@ pub(crate) fn encrypted_over(
     run::unrecorded(
         Block::lent(Caller {}, input),
         schedule,
+        aes::rounds_for(schedule.len()),
         masks,
         &places,
         covers,
@@ -56,8 +61,8 @@ pub(crate) fn recorded_over(
     covers: &mut [u8; 256],
     compensations: &mut [u8; 256],
 )
-    requires { ⌜ (length (now schedule) ≡ 240) × (length (now input) ≡ 16) × (length (now states) ≡ 1136) × Begun start × Started masks start × (now boxes ≡ maskedBoxes sBox (masks .0) (masks .1)) × (now covers ≡ coversOf (masks .0) (one 0)) × (now compensations ≡ constants compensation (masks .0) (one 0)) ⌝ }
-    ensures { λ _. ⌜ now (states .exit) ≡ bytes (maskedRecord 14 (masks .0) (recordOf start) (masks .1) (now (schedule .entry)) (now (input .entry))) ⌝ }
+    requires { ⌜ (scheduled (length (now schedule)) ≡ true) × (length (now input) ≡ 16) × (length (now states) ≡ 80 * roundsOf (now schedule) + 16) × Begun start × Started masks start × (now boxes ≡ maskedBoxes sBox (masks .0) (masks .1)) × (now covers ≡ coversOf (masks .0) (one 0)) × (now compensations ≡ constants compensation (masks .0) (one 0)) ⌝ }
+    ensures { λ _. ⌜ now (states .exit) ≡ bytes (maskedRecord (roundsOf (now (schedule .entry))) (masks .0) (recordOf start) (masks .1) (now (schedule .entry)) (now (input .entry))) ⌝ }
 {
     let mut places = first_places();
     masks.laid(&mut places, covers);
@@ -65,6 +70,7 @@ pub(crate) fn recorded_over(
     run::recorded(
         Block::lent(Caller {}, input),
         schedule,
+        aes::rounds_for(schedule.len()),
         masks,
         &places,
         covers,
@@ -87,8 +93,8 @@ pub(crate) fn decrypted_over(
     rows: &mut [u8; 256],
     columns: &mut [u8; 256],
 )
-    requires { ⌜ (length (now schedule) ≡ 240) × (length (now input) ≡ 16) × (length (now output) ≡ 16) × Begun start × Started masks start × (now boxes ≡ maskedBoxes invSBox (masks .0) (masks .1)) × (now covers ≡ coversOf (masks .0) (one 0)) × (now rows ≡ constants afterRows (masks .0) (one 0)) × (now columns ≡ constants afterColumns (masks .0) (one 0)) ⌝ }
-    ensures { λ _. ⌜ now (output .exit) ≡ maskedInvCipher 14 (masks .0) (recordOf start) (masks .1) (now (schedule .entry)) (now (input .entry)) ⌝ }
+    requires { ⌜ (scheduled (length (now schedule)) ≡ true) × (length (now input) ≡ 16) × (length (now output) ≡ 16) × Begun start × Started masks start × (now boxes ≡ maskedBoxes invSBox (masks .0) (masks .1)) × (now covers ≡ coversOf (masks .0) (one 0)) × (now rows ≡ constants afterRows (masks .0) (one 0)) × (now columns ≡ constants afterColumns (masks .0) (one 0)) ⌝ }
+    ensures { λ _. ⌜ now (output .exit) ≡ maskedInvCipher (roundsOf (now (schedule .entry))) (masks .0) (recordOf start) (masks .1) (now (schedule .entry)) (now (input .entry)) ⌝ }
 {
     let mut places = first_places();
     masks.laid(&mut places, covers);
@@ -96,7 +102,7 @@ pub(crate) fn decrypted_over(
     back::opened(
         Block::lent(Caller {}, input),
         schedule,
-        14,
+        aes::rounds_for(schedule.len()),
         masks,
         &places,
         covers,
@@ -119,8 +125,8 @@ pub(crate) fn decryption_recorded_over(
     rows: &mut [u8; 256],
     columns: &mut [u8; 256],
 )
-    requires { ⌜ (length (now schedule) ≡ 240) × (length (now input) ≡ 16) × (length (now states) ≡ 1360) × Begun start × Started masks start × (now boxes ≡ maskedBoxes invSBox (masks .0) (masks .1)) × (now covers ≡ coversOf (masks .0) (one 0)) × (now rows ≡ constants afterRows (masks .0) (one 0)) × (now columns ≡ constants afterColumns (masks .0) (one 0)) ⌝ }
-    ensures { λ _. ⌜ now (states .exit) ≡ bytes (maskedBackRecord 14 (masks .0) (recordOf start) (masks .1) (now (schedule .entry)) (now (input .entry))) ⌝ }
+    requires { ⌜ (scheduled (length (now schedule)) ≡ true) × (length (now input) ≡ 16) × (length (now states) ≡ 96 * roundsOf (now schedule) + 16) × Begun start × Started masks start × (now boxes ≡ maskedBoxes invSBox (masks .0) (masks .1)) × (now covers ≡ coversOf (masks .0) (one 0)) × (now rows ≡ constants afterRows (masks .0) (one 0)) × (now columns ≡ constants afterColumns (masks .0) (one 0)) ⌝ }
+    ensures { λ _. ⌜ now (states .exit) ≡ bytes (maskedBackRecord (roundsOf (now (schedule .entry))) (masks .0) (recordOf start) (masks .1) (now (schedule .entry)) (now (input .entry))) ⌝ }
 {
     let mut places = first_places();
     masks.laid(&mut places, covers);
@@ -128,7 +134,7 @@ pub(crate) fn decryption_recorded_over(
     back::opened_recorded(
         Block::lent(Caller {}, input),
         schedule,
-        14,
+        aes::rounds_for(schedule.len()),
         masks,
         &places,
         covers,

@@ -6,10 +6,12 @@ use Prim.Native.Nat.{ℕ, _-_, _*_}
 use borrow.Author.Tests.{eq-eqb}
 use lib.Dec.{T}
 use lib.ListN.{length}
+use Rattle.aes.specs.Key.{roundsOf}
 use Rattle.aes.specs.Cipher.{invCipher}
 use Rattle.aes.specs.Record.{run, last}
 use Rattle.aes.specs.Reply.{taken}
 use Rattle.aes.specs.Calls.{decryptOf}
+use Rattle.aes.proofs.Replies.{is-true}
 use Rattle.masks.specs.Mask.{published, _⊞_, mask}
 use Rattle.runs.specs.Back.{block, keyed, closing, sixes, backPoints, maskedInvCipher}
 use Rattle.theorems.specs.Ways.{Offsets}
@@ -21,7 +23,7 @@ use Rattle.theorems.proofs.CallLaws.{inv-cipher-size}
 use Rattle.theorems.proofs.Cover.{last-map, last-summed}
 use Rattle.theorems.proofs.PlainBack.{back-record-last}
 use Rattle.theorems.proofs.BackRelation.{back-relation}
-use Rattle.theorems.proofs.Result.{is-true, add-none}
+use Rattle.theorems.proofs.Result.{add-none}
 use Rattle.theorems.proofs.Records.{low-offsets}
 
 -- no mask lies on the finished block
@@ -43,7 +45,7 @@ masked-inv-cipher M v d w nr b =
 -- At the calls: whatever the masks, the offsets and the step are, they write what the plain call writes.
 pub decrypt-masked-is : (w b out M v : List ℕ) (d : ℕ) → length M ≡ 16 → Offsets v → T (taken d) → decryptMaskedOf w b out M v d ≡ decryptOf w b out
 decrypt-masked-is w b out M v d lm h t =
-    simp (eq-eqb (length M) 16 lm, eq-eqb (length v) 16 (h .0), low-offsets v h, is-true (taken d) t, masked-inv-cipher M v d w 14 b)
+    simp (eq-eqb (length M) 16 lm, eq-eqb (length v) 16 (h .0), low-offsets v h, is-true (taken d) t, masked-inv-cipher M v d w (roundsOf w) b)
 
 pub decrypt-published-is : (w b out v : List ℕ) (d : ℕ) → Offsets v → T (taken d) → decryptPublishedOf w b out v d ≡ decryptOf w b out
-decrypt-published-is w b out v d h t = simp (eq-eqb (length v) 16 (h .0), low-offsets v h, is-true (taken d) t, masked-inv-cipher published v d w 14 b)
+decrypt-published-is w b out v d h t = simp (eq-eqb (length v) 16 (h .0), low-offsets v h, is-true (taken d) t, masked-inv-cipher published v d w (roundsOf w) b)

@@ -1,7 +1,8 @@
 -- Balance: the test tells of any three bits, and a turn of the offsets and a fixed byte added to all keep it.
 -- Assumes nothing.
 use mathlib.Core.Path.{_≡_, refl, sym, ap, fun-ext, _∙_}
-use mathlib.Core.Bool.{true, not, _&&_}
+use mathlib.Core.Bool.{Bool, true, not, _&&_}
+use mathlib.Core.List.{List, [], _∷_, _++_}
 use Prim.Native.Nat.{ℕ, zero, suc, _+_, _*_, _/_, _%_, _^_, _<_}
 use native.Mathlib.Omega.{arith}
 use native.Mathlib.Decide.{ℕ-discrete, decLt}
@@ -16,7 +17,7 @@ use Rattle.aes.proofs.Below.{below-all, under}
 use Rattle.beside.specs.Fitness.{pattern, count, even, balanced}
 use Rattle.beside.proofs.Even.{pattern-lt}
 use Rattle.beside.proofs.Alike.{turns}
-use Rattle.theorems.specs.Balance.{times, different, Balanced}
+use Rattle.theorems.specs.Balance.{times, different, Balanced, howMany}
 
 -- Where σ undoes itself, the counts move with the patterns.
 module _ (σ : ℕ → ℕ) (undone : (v : ℕ) → v < 8 → σ (σ v) ≡ v) where
@@ -167,3 +168,9 @@ upper-unbalanced f g c d n e found other b =
     let turned = balanced-turn (λ o. g ((o + d) % 16)) (balanced-back c (λ o. g ((o + d) % 16)) under) (15 * d) in
     let around : Balanced g = balanced-same g _ (λ o h. ap g (omega arith)) turned in
     other (sym found ∙ around .twice 5 6 7 7 (lit< tt) (lit< tt) (lit< tt) tt (lit< tt))
+
+-- how many points of two lists
+pub how-many-append : {P : Type 0} (so : P → Bool) (ps qs : List P) → howMany so (ps ++ qs) ≡ howMany so ps + howMany so qs
+unfolding howMany
+how-many-append so [] qs = omega arith
+how-many-append so (p ∷ ps) qs = omega (arith, how-many-append so ps qs)

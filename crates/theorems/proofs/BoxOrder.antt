@@ -12,8 +12,9 @@ use mir.Facts.{no-eqb}
 use lib.ListN.{length, getD, set}
 use Rattle.aes.specs.Byte.{_⊕_, table, below}
 use Rattle.aes.specs.State.{at}
+use Rattle.aes.specs.Key.{roundsOf}
 use Rattle.aes.specs.Record.{block, keyed, boxed, points, cipherAt}
-use Rattle.aes.specs.Reply.{taken}
+use Rattle.aes.specs.Reply.{scheduled, taken}
 use Rattle.aes.proofs.Below.{under}
 use Rattle.aes.proofs.Xor.{sums, xor-self, xor-zero}
 use Rattle.aes.proofs.Listed.{table-at}
@@ -54,11 +55,11 @@ module _ (order : List ℕ) (positions : (k : ℕ) → k < 16 → at order k < 1
         (within-run nr r hr) (keyed r) (boxed r) (keyed-at nr r hr) (boxed-at nr r hr) k hk
 
     -- the same of the states that record_masked writes
-    pub between-recorded : length M ≡ 16 → (states : List ℕ) → length w ≡ 240 → length b ≡ 16 → length states ≡ 1136 → Offsets v → T (taken d) → r < 14
+    pub between-recorded : length M ≡ 16 → (states : List ℕ) → scheduled (length w) ≡ true → length b ≡ 16 → length states ≡ 16 * (5 * roundsOf w + 1) → Offsets v → T (taken d) → r < roundsOf w
         → betweenRecorded order (recordMaskedOf w b M v d states .1) (5 * r + 1) k ≡ betweenBare order w b r k ⊕ betweenMasks order M v d r k
     between-recorded lm states lw lb ls hv t hr =
-        let written : (q : ℕ) → blockAt q (recordMaskedOf w b M v d states .1) ≡ getD (maskedRecord 14 M v d w b) q [] = masked-states w b states lw lb ls M lm v hv d t in
-        (λ i. between order (written (5 * r + 1) i) (written (5 * r + 1 + 1) i) k) ∙ between-states 14 hr
+        let written : (q : ℕ) → blockAt q (recordMaskedOf w b M v d states .1) ≡ getD (maskedRecord (roundsOf w) M v d w b) q [] = masked-states w b states lw lb ls M lm v hv d t in
+        (λ i. between order (written (5 * r + 1) i) (written (5 * r + 1 + 1) i) k) ∙ between-states (roundsOf w) hr
 
 natural-at : (k : ℕ) → k < 16 → at natural k ≡ k
 unfolding table
@@ -115,7 +116,7 @@ module _ (o : ℕ) (w b : List ℕ) (r k : ℕ) (hk : k < 15) where
   natural-bare nr hr M = (between-states natural natural-below M (one o) 1 w b r k hk nr hr, always-bare M)
 
   -- both of what record_masked writes
-  module _ (states : List ℕ) (lw : length w ≡ 240) (lb : length b ≡ 16) (ls : length states ≡ 1136) (hr : r < 14) where
+  module _ (states : List ℕ) (lw : scheduled (length w) ≡ true) (lb : length b ≡ 16) (ls : length states ≡ 16 * (5 * roundsOf w + 1)) (hr : r < roundsOf w) where
     pub even-first-recorded : (d : ℕ) → T (taken d)
         → (betweenRecorded boxOrder (recordMaskedOf w b published (one o) d states .1) (5 * r + 1) k ≡ betweenBare boxOrder w b r k ⊕ betweenMasks boxOrder published (one o) d r k)
         × (betweenMasks boxOrder published (one o) d r k ≡ 0 → ⊥)
@@ -170,7 +171,7 @@ unfolding table below
 unlucky-offsets = (refl, λ i h. lit≤ (under (λ i. leb (at unlucky i) 15) 16 tt i h))
 
 -- so what record_masked writes shows the xor of two bytes of CIPHER as it is
-pub unlucky-recorded : (w b states : List ℕ) → length w ≡ 240 → length b ≡ 16 → length states ≡ 1136 → (r : ℕ) → r < 14
+pub unlucky-recorded : (w b states : List ℕ) → scheduled (length w) ≡ true → length b ≡ 16 → length states ≡ 16 * (5 * roundsOf w + 1) → (r : ℕ) → r < roundsOf w
     → betweenRecorded boxOrder (recordMaskedOf w b published unlucky 1 states .1) (5 * r + 1) 0 ≡ betweenBare boxOrder w b r 0
 unlucky-recorded w b states lw lb ls r hr =
     between-recorded boxOrder order-below published unlucky 1 w b r 0 (lit< tt) published-length states lw lb ls unlucky-offsets tt hr

@@ -3,13 +3,14 @@
 use mathlib.Core.Path.{_≡_, refl, ap, _∙_}
 use mathlib.Core.List.{List, []}
 use Prim.Native.Nat.{ℕ, _≤_}
-use native.Mathlib.Omega.{arith}
 use borrow.Author.Tests.{eq-eqb, le-leb}
+use lib.Dec.{lit<}
 use lib.ListN.{length, getD}
 use Rattle.aes.specs.State.{shiftRows, addRoundKey}
 use Rattle.aes.specs.Cipher.{cipher}
 use Rattle.aes.specs.Record.{wholes, points, cipherAt}
 use Rattle.aes.specs.Calls.{encryptOf}
+use Rattle.aes.proofs.Schedule.{full}
 use Rattle.masks.specs.Mask.{one, published, _⊞_, mask}
 use Rattle.runs.specs.Run.{maskedRecord}
 use Rattle.beside.specs.Stored.{stored, convertOf}
@@ -17,7 +18,7 @@ use Rattle.masks.specs.MaskTable.{maskBy}
 use Rattle.theorems.proofs.CallLaws.{cipher-size}
 use Rattle.theorems.proofs.AnyMasks.{add-change, add-gone}
 use Rattle.theorems.proofs.Relation.{relation-cipher}
-use Rattle.theorems.proofs.RecordStates.{seventy-one}
+use Rattle.theorems.proofs.RoundPoints.{run-length}
 use Rattle.theorems.proofs.Result.{add-none}
 
 add-sized : (s m : List ℕ) → length (s ⊞ m) ≡ 16
@@ -32,7 +33,7 @@ pub stored-is : (w b : List ℕ) (o : ℕ)
     → getD (maskedRecord 14 published (one o) 1 w b) 69 [] ⊞ (mask published (one o) 14 ⊞ shiftRows (mask published (one o) 14)) ≡ stored o (cipher 14 w b)
 unfolding points wholes maskBy cipherAt cipher
 stored-is w b o =
-    ap (λ (s : List ℕ). s ⊞ (mask published (one o) 14 ⊞ shiftRows (mask published (one o) 14))) (relation-cipher published (one o) 1 w 14 b 69 (rw seventy-one (omega arith)))
+    ap (λ (s : List ℕ). s ⊞ (mask published (one o) 14 ⊞ shiftRows (mask published (one o) 14))) (relation-cipher published (one o) 1 w 14 b 69 (rw (run-length 14 (lit< tt)) (lit< tt)))
     ∙ add-change (cipher 14 w b) (shiftRows (mask published (one o) 14)) (mask published (one o) 14)
 
 -- of what is stored of a block, the block that encrypt writes
@@ -40,7 +41,8 @@ pub convert-standard : (w b out : List ℕ) (o : ℕ) → length w ≡ 240 → l
 convert-standard w b out o lw lb lo =
     simp (
       eq-eqb (length (stored o (cipher 14 w b))) 16 (add-sized (cipher 14 w b) (mask published (one o) 14)),
-      eq-eqb (length w) 240 lw,
+      full w lw .0,
+      full w lw .1,
       eq-eqb (length b) 16 lb,
       le-leb o 15 lo,
       add-twice (cipher 14 w b) (mask published (one o) 14) (cipher-size 14 w b),

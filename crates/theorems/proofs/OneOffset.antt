@@ -1,13 +1,15 @@
 -- One offset o is the record o, o+1 .. o+15: what is proved of every record, said of one offset, with no proof of its own.
 -- Assumes nothing.
 use mathlib.Core.Path.{_≡_, sym, subst}
+use mathlib.Core.Bool.{true}
 use mathlib.Core.List.{List}
 use Prim.Native.Nat.{ℕ, _+_, _*_, _<_}
 use lib.Dec.{T}
 use lib.ListN.{length, getD}
 use Rattle.aes.specs.State.{at}
+use Rattle.aes.specs.Key.{roundsOf}
 use Rattle.aes.specs.Record.{block, points, cipherAt}
-use Rattle.aes.specs.Reply.{taken}
+use Rattle.aes.specs.Reply.{scheduled, taken}
 use Rattle.aes.specs.Calls.{encryptOf, decryptOf}
 use Rattle.masks.specs.Mask.{_⊞_, one}
 use Rattle.masks.proofs.Counted.{one-on}
@@ -41,23 +43,23 @@ module _ (w b out : List ℕ) (o d : ℕ) (t : T (taken d)) where
     pub decrypt-masked-one : decryptMaskedOf w b out M (one o) d ≡ decryptOf w b out
     decrypt-masked-one = decrypt-masked-is w b out M (one o) d lm (one-offsets o) t
 
-module _ (w b states : List ℕ) (lw : length w ≡ 240) (lb : length b ≡ 16) (d : ℕ) (t : T (taken d)) (M : List ℕ) where
+module _ (w b states : List ℕ) (lw : scheduled (length w) ≡ true) (lb : length b ≡ 16) (d : ℕ) (t : T (taken d)) (M : List ℕ) where
   -- the relation
-  pub masked-state-one : length states ≡ 1136 → length M ≡ 16 → (o q : ℕ) → q < 71
-      → blockAt q (recordMaskedOf w b M (one o) d states .1) ≡ cipherAt w b (getD (points 14) q block) ⊞ maskAt M (one o) d (getD (points 14) q block)
+  pub masked-state-one : length states ≡ 16 * (5 * roundsOf w + 1) → length M ≡ 16 → (o q : ℕ) → q < 5 * roundsOf w + 1
+      → blockAt q (recordMaskedOf w b M (one o) d states .1) ≡ cipherAt w b (getD (points (roundsOf w)) q block) ⊞ maskAt M (one o) d (getD (points (roundsOf w)) q block)
   masked-state-one ls lm o = masked-state w b states lw lb ls M lm (one o) (one-offsets o) d t
 
-  pub back-state-one : length states ≡ 1360 → length M ≡ 16 → (o q : ℕ) → q < 85
-      → blockAt q (recordMaskedDecryptionOf w b M (one o) d states .1) ≡ invCipherAt 14 w b (getD (backPoints 14) q back.block) ⊞ maskBackAt M (one o) d (getD (backPoints 14) q back.block)
+  pub back-state-one : length states ≡ 16 * (6 * roundsOf w + 1) → length M ≡ 16 → (o q : ℕ) → q < 6 * roundsOf w + 1
+      → blockAt q (recordMaskedDecryptionOf w b M (one o) d states .1) ≡ invCipherAt (roundsOf w) w b (getD (backPoints (roundsOf w)) q back.block) ⊞ maskBackAt M (one o) d (getD (backPoints (roundsOf w)) q back.block)
   back-state-one ls lm o = back-state w b states lw lb ls M lm (one o) (one-offsets o) d t
 
   -- the balance, over the sixteen offsets
-  pub fit-balance-one : fitnessOf M .1 ≡ 1 → length states ≡ 1136 → (q i : ℕ) → q < 71 → T (single (getD (points 14) q block)) → i < 16
+  pub fit-balance-one : fitnessOf M .1 ≡ 1 → length states ≡ 16 * (5 * roundsOf w + 1) → (q i : ℕ) → q < 5 * roundsOf w + 1 → T (single (getD (points (roundsOf w)) q block)) → i < 16
       → Balanced (λ o. at (recordMaskedOf w b M (one o) d states .1) (16 * q + i))
   fit-balance-one fit ls q i hq s hi =
       subst Balanced (λ j o. at (recordMaskedOf w b M (sym (one-on o) j) d states .1) (16 * q + i)) (fit-balance M fit (one 0) d t w b states lw lb ls q i hq s hi)
 
-  pub back-balance-one : fitnessOf M .1 ≡ 1 → length states ≡ 1360 → (q i : ℕ) → q < 85 → T (singleBack (getD (backPoints 14) q back.block)) → i < 16
+  pub back-balance-one : fitnessOf M .1 ≡ 1 → length states ≡ 16 * (6 * roundsOf w + 1) → (q i : ℕ) → q < 6 * roundsOf w + 1 → T (singleBack (getD (backPoints (roundsOf w)) q back.block)) → i < 16
       → Balanced (λ o. at (recordMaskedDecryptionOf w b M (one o) d states .1) (16 * q + i))
   back-balance-one fit ls q i hq s hi =
       subst Balanced (λ j o. at (recordMaskedDecryptionOf w b M (sym (one-on o) j) d states .1) (16 * q + i)) (back-balance M fit (one 0) d t w b states lw lb ls q i hq s hi)

@@ -11,13 +11,12 @@ use lib.ListN.{length}
 use Rattle.aes.specs.Byte.{place, table}
 use Rattle.aes.specs.State.{at}
 use Rattle.aes.specs.Reply.{Check, _else_, answer}
-use Rattle.aes.proofs.Replies.{AllHold, telling, done-holds}
+use Rattle.aes.proofs.Replies.{AllHold, telling, done-holds, is-true}
 use Rattle.packet.specs.Packet.{pid, scrambling, fieldRight, start, long, parity, pidAt, pipeOf, isListed, scrambled, descrambled}
 use Rattle.packet.specs.Calls.{firstChecks, laterChecks, written, answeredOf, callOf, scrambleOf, descrambleOf}
 use Rattle.packet.proofs.Checked.{held-sizes}
 use Rattle.packet.proofs.Splice.{low}
 use Rattle.packet.proofs.Outcome.{unlisted, clear, opened}
-use Rattle.theorems.proofs.Result.{is-true}
 use Rattle.theorems.proofs.Restored.{sent, sent-size, sent-bits, before-start, sent-pid, sent-start, sent-field, sent-is, restored}
 
 -- past checks that hold, those behind them decide

@@ -14,6 +14,7 @@ use Rattle.aes.specs.Byte.{table, below}
 use Rattle.aes.specs.State.{at}
 use Rattle.aes.proofs.Below.{under, below-all}
 use Rattle.aes.proofs.Listed.{table-at, table-same}
+use Rattle.aes.proofs.Replies.{is-true}
 use Rattle.masks.proofs.Row.{row-at}
 use Rattle.beside.specs.Fitness.{patterns, count, even, balanced, fit, fitnessOf}
 use Rattle.beside.specs.Report.{rowPoint, countIn, inside, countsOf, valuesOf, mixedOver, maskCountOf, triples, rowAt, byteAt, bitAt, countsAt, allCounts}
@@ -21,7 +22,6 @@ use Rattle.beside.proofs.Alike.{alike, within}
 use Rattle.theorems.specs.Balance.{single}
 use Rattle.theorems.proofs.Balancing.{rising-different}
 use Rattle.theorems.proofs.Fit.{fit-balanced}
-use Rattle.theorems.proofs.Result.{is-true}
 
 -- the counts by the masks that lie over the byte, and by the definition in any round and with any step
 module _ (M : List ℕ) (row i x y z : ℕ) (in-it : inside row i x y z ≡ true) where

@@ -1,7 +1,7 @@
 -- What a masked run ends with: the ciphertext of FIPS 197, whatever the masks, the offsets and the step are.
 -- Assumes nothing.
-use mathlib.Core.Path.{_≡_, refl, sym, ap, _∙_}
-use mathlib.Core.Bool.{Bool, true, false}
+use mathlib.Core.Path.{_≡_, refl, sym, ap, subst, _∙_}
+use mathlib.Core.Bool.{Bool, true, false, cond}
 use mathlib.Core.List.{List, [], _∷_, _++_, map}
 use Prim.Native.Nat.{ℕ, suc, _-_, _*_}
 use native.Mathlib.Decide.{decLt}
@@ -12,13 +12,16 @@ use lib.ListN.{length, List·getD-eq-default}
 use Rattle.aes.specs.Byte.{table}
 use Rattle.aes.specs.Field.{xTimes, times, _•_}
 use Rattle.aes.specs.State.{at, dot, shiftRows, mixColumns, addRoundKey}
+use Rattle.aes.specs.Key.{roundsOf}
 use Rattle.aes.specs.Cipher.{cipher}
 use Rattle.aes.specs.Record.{Point, block, keyed, boxed, shifted, mixed, compensated, closed, uncovered, final, wholes, points, run, last, plain, plainRecord}
-use Rattle.aes.specs.Reply.{taken}
+use Rattle.aes.specs.Reply.{scheduled, taken}
 use Rattle.aes.specs.Calls.{encryptOf}
 use Rattle.aes.proofs.Xor.{xor-zero}
 use Rattle.aes.proofs.Listed.{table-at}
 use Rattle.aes.proofs.Undo.{state-at}
+use Rattle.aes.proofs.Replies.{is-true}
+use Rattle.aes.proofs.Schedule.{some-rounds}
 use Rattle.aes.proofs.PlainRun.{plain-sized}
 use Rattle.masks.specs.Mask.{published, _⊞_, mask}
 use Rattle.runs.specs.Run.{maskedRecord, maskedCipher}
@@ -31,11 +34,6 @@ use Rattle.theorems.proofs.PlainRecord.{record-last}
 use Rattle.theorems.proofs.Cover.{last-map, last-summed}
 use Rattle.theorems.proofs.Relation.{relation}
 use Rattle.theorems.proofs.Records.{low-offsets}
-
--- what holds is true
-pub is-true : (b : Bool) → T b → b ≡ true
-is-true true t = refl
-is-true false t = absurd t
 
 -- no mask lies on the finished block
 last-mask : (M v : List ℕ) (d n : ℕ) (m : List ℕ) → last m (map (maskAt M v d) (points (suc n))) ≡ bare
@@ -103,9 +101,25 @@ unfolding plainRecord
 zero-masks v d w nr b l = relation bare v d w nr b ∙ summed-bare v d w (points nr) b l
 
 -- At the calls: whatever the masks, the offsets and the step are, they write what the plain call writes.
-pub encrypt-masked-is : (w b out M v : List ℕ) (d : ℕ) → length M ≡ 16 → Offsets v → T (taken d) → encryptMaskedOf w b out M v d 0 ≡ encryptOf w b out
-encrypt-masked-is w b out M v d lm h t =
-    simp (eq-eqb (length M) 16 lm, eq-eqb (length v) 16 (h .0), low-offsets v h, is-true (taken d) t, masked-cipher M v d w 13 b)
+module _ (w : List ℕ) where
+  same-cipher : scheduled (length w) ≡ true → (M v : List ℕ) (d : ℕ) (b : List ℕ) → maskedCipher (roundsOf w) M v d w b ≡ cipher (roundsOf w) w b
+  same-cipher is M v d b =
+      let pos = some-rounds (length w) is .0 in
+      let e : suc (roundsOf w - 1) ≡ roundsOf w = omega (arith, pos) in
+      subst (λ (n : ℕ). maskedCipher n M v d w b ≡ cipher n w b) e (masked-cipher M v d w (roundsOf w - 1) b)
 
-pub encrypt-published-is : (w b out v : List ℕ) (d : ℕ) → Offsets v → T (taken d) → encryptPublishedOf w b out v d 0 ≡ encryptOf w b out
-encrypt-published-is w b out v d h t = simp (eq-eqb (length v) 16 (h .0), low-offsets v h, is-true (taken d) t, masked-cipher published v d w 13 b)
+  -- where the schedule is refused, so are both
+  if-scheduled : {A : Type 0} (x y z : A) → (scheduled (length w) ≡ true → x ≡ y) → cond (scheduled (length w)) x z ≡ cond (scheduled (length w)) y z
+  if-scheduled x y z h = by-case (scheduled (length w)) refl
+    where
+      by-case : (q : Bool) → scheduled (length w) ≡ q → cond (scheduled (length w)) x z ≡ cond (scheduled (length w)) y z
+      by-case true q = ap (λ u. cond (scheduled (length w)) u z) (h q)
+      by-case false q = rw q refl
+
+  pub encrypt-masked-is : (b out M v : List ℕ) (d : ℕ) → length M ≡ 16 → Offsets v → T (taken d) → encryptMaskedOf w b out M v d 0 ≡ encryptOf w b out
+  encrypt-masked-is b out M v d lm h t =
+      if-scheduled _ _ _ (λ is. simp (eq-eqb (length M) 16 lm, eq-eqb (length v) 16 (h .0), low-offsets v h, is-true (taken d) t, same-cipher is M v d b))
+
+  pub encrypt-published-is : (b out v : List ℕ) (d : ℕ) → Offsets v → T (taken d) → encryptPublishedOf w b out v d 0 ≡ encryptOf w b out
+  encrypt-published-is b out v d h t =
+      if-scheduled _ _ _ (λ is. simp (eq-eqb (length v) 16 (h .0), low-offsets v h, is-true (taken d) t, same-cipher is published v d b))

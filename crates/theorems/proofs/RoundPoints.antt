@@ -1,7 +1,7 @@
 -- Where the points of round r stand in the list of all points of a run, and in that of a decryption.
 -- Assumes nothing.
-use mathlib.Core.Path.{_≡_, refl, sym, _∙_}
-use mathlib.Core.List.{List, [], _∷_, _++_, append-assoc}
+use mathlib.Core.Path.{_≡_, refl, sym, ap, _∙_}
+use mathlib.Core.List.{List, [], _∷_, _++_, append-assoc, append-nil}
 use Prim.Native.Nat.{ℕ, zero, suc, _+_, _-_, _*_, _≤_, _<_}
 use native.Mathlib.Nat.{mul-zero, mul-suc}
 use native.Mathlib.Omega.{arith}
@@ -9,8 +9,8 @@ use native.Mathlib.Decide.{ℕ-discrete}
 use lib.Dec.{lit<}
 use lib.ListN.{length, getD, length-append, List·getD-append}
 use lib.Seq.{getD-append-add}
-use Rattle.aes.specs.Record.{block, keyed, boxed, shifted, mixed, compensated, final, whole, wholes, points}
-use Rattle.runs.specs.Back.{corrected, unboxed, six, closing, sixes, backPoints}
+use Rattle.aes.specs.Record.{Point, block, keyed, boxed, shifted, mixed, compensated, uncovered, final, whole, wholes, points}
+use Rattle.runs.specs.Back.{Back, corrected, unboxed, six, closing, sixes, backPoints}
 use Rattle.runs.specs.Back as back
 
 -- rounds of k points each, all of which begin alike
@@ -35,6 +35,30 @@ module _ {P : Type 0} (rounds round begun rest : ℕ → List P) (k : ℕ) (empt
             (round-in none n r i _ (omega arith) h)
       ]
 
+-- all of them, and the last, which is the finished block
+pub run-length : (n : ℕ) → 0 < n → length (points n) ≡ 5 * n + 1
+unfolding points wholes
+run-length n pos =
+    rw (length-append (wholes (n - 1)) (final (n - 1)), rounds-length wholes whole (λ r. []) whole 5 refl (λ n. refl) (λ n. refl) (λ n. refl) (n - 1)) (omega (arith, pos))
+
+pub run-end : (n : ℕ) → 0 < n → getD (points n) (5 * n) block ≡ uncovered (n - 1)
+unfolding points wholes
+run-end n pos =
+    let before : List Point = block ∷ wholes (n - 1) in
+    let size : length before ≡ 5 * (n - 1) + 1 = rw (rounds-length wholes whole (λ r. []) whole 5 refl (λ n. refl) (λ n. refl) (λ n. refl) (n - 1)) (omega arith) in
+    let e : 5 * n ≡ length before + 4 = rw size (omega (arith, pos)) in
+    ap (λ (q : ℕ). getD (points n) q block) e ∙ getD-append-add before (final (n - 1)) 4 block
+
+-- in a round that is whole MIXCOLUMNS is made at point 5 r + 4
+pub mixed-at : (n r : ℕ) → suc r < n → getD (points n) (5 * r + 4) block ≡ mixed r
+unfolding points wholes
+mixed-at n r lt =
+    let m : ℕ = n - 2 in
+    let e : n - 1 ≡ suc m = omega (arith, lt) in
+    let q : 5 * r + 4 ≡ suc (5 * r + 3) = omega arith in
+    rw (q, e, append-assoc (wholes m) (whole m) (final (suc m)))
+    (round-in wholes whole whole (λ r. []) 5 refl (λ n. refl) (λ n. sym (append-nil (whole n))) (λ n. refl) block m r 3 (final (suc m)) (omega (arith, lt)) (lit< tt))
+
 -- in a run: state 5 r + 1 is that after the key of round r, and the next that after its boxes
 in-run : (nr r i q : ℕ) → r < nr → i < 2 → q ≡ suc (5 * r + i) → getD (points nr) q block ≡ getD (keyed r ∷ boxed r ∷ []) i block
 unfolding points wholes
@@ -55,6 +79,29 @@ module _ (nr r : ℕ) (lt : r < nr) where
   within-run =
       rw (length-append (wholes (nr - 1)) (final (nr - 1)), rounds-length wholes whole (λ r. []) whole 5 refl (λ n. refl) (λ n. refl) (λ n. refl) (nr - 1))
       (omega arith)
+
+-- the same of a decryption
+pub back-length : (n : ℕ) → 0 < n → length (backPoints n) ≡ 6 * n + 1
+unfolding backPoints sixes
+back-length n pos =
+    rw (length-append (sixes (n - 1)) (closing (n - 1)), rounds-length sixes six (λ r. []) six 6 refl (λ n. refl) (λ n. refl) (λ n. refl) (n - 1)) (omega (arith, pos))
+
+pub back-end : (n : ℕ) → 0 < n → getD (backPoints n) (6 * n) back.block ≡ back.uncovered (n - 1)
+unfolding backPoints sixes
+back-end n pos =
+    let before : List Back = back.block ∷ back.keyed 0 ∷ sixes (n - 1) in
+    let size : length before ≡ 6 * (n - 1) + 2 = rw (rounds-length sixes six (λ r. []) six 6 refl (λ n. refl) (λ n. refl) (λ n. refl) (n - 1)) (omega arith) in
+    let e : 6 * n ≡ length before + 4 = rw size (omega (arith, pos)) in
+    ap (λ (q : ℕ). getD (backPoints n) q back.block) e ∙ getD-append-add before (closing (n - 1)) 4 back.block
+
+pub unmixed-at : (n r : ℕ) → suc r < n → getD (backPoints n) (6 * r + 6) back.block ≡ back.unmixed r
+unfolding backPoints sixes
+unmixed-at n r lt =
+    let m : ℕ = n - 2 in
+    let e : n - 1 ≡ suc m = omega (arith, lt) in
+    let q : 6 * r + 6 ≡ suc (suc (6 * r + 4)) = omega arith in
+    rw (q, e, append-assoc (sixes m) (six m) (closing (suc m)))
+    (round-in sixes six six (λ r. []) 6 refl (λ n. refl) (λ n. sym (append-nil (six n))) (λ n. refl) back.block m r 4 (closing (suc m)) (omega (arith, lt)) (lit< tt))
 
 -- in a decryption: state 6 r + 3 is that after the first correction of round r, and the next that after its boxes
 in-back : (nr r i q : ℕ) → r < nr → i < 4 → q ≡ suc (suc (6 * r + i))

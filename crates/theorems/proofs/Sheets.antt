@@ -13,10 +13,9 @@ use mir.Facts.{and-yes}
 use borrow.Author.Tests.{eq-eqb, ne-eqb}
 use Rattle.aes.specs.State.{at}
 use Rattle.aes.specs.Reply.{marked, version, stepOf, taken}
-use Rattle.aes.proofs.Replies.{AllHold, telling, done-holds, holds-done}
+use Rattle.aes.proofs.Replies.{AllHold, telling, done-holds, holds-done, is-true}
 use Rattle.masks.proofs.Headed.{five, first-version, second-version}
 use Rattle.masks.specs.Sheet.{headed, sheetOf, masksOf, readChecks, readSheetOf, writeSheetOf}
-use Rattle.theorems.proofs.Result.{is-true}
 
 -- what the reader makes of sixteen masks under a head of version 1, and of version 2 with a step behind them
 module _ (masks other : List ℕ) (m : length masks ≡ 16) (o : length other ≡ 16) where

@@ -1,12 +1,13 @@
 -- There and back at the calls: what one way seals any way opens, and the reverse, each with masks, offsets and step of its own.
 -- Assumes nothing.
 use mathlib.Core.Path.{_≡_, refl}
+use mathlib.Core.Bool.{true}
 use mathlib.Core.List.{List}
 use Prim.Native.Nat.{ℕ}
 use lib.Dec.{T}
 use lib.ListN.{length}
 use Rattle.aes.specs.State.{Bytes}
-use Rattle.aes.specs.Reply.{taken}
+use Rattle.aes.specs.Reply.{scheduled, taken}
 use Rattle.aes.specs.Calls.{encryptOf, decryptOf}
 use Rattle.masked.specs.Calls.{encryptPublishedOf, encryptMaskedOf, decryptPublishedOf, decryptMaskedOf}
 use Rattle.theorems.specs.Ways.{Offsets, Way, plain, published, masked, Taken, sealOf, openOf}
@@ -24,14 +25,14 @@ open-is plain t w b out = refl
 open-is (published v d) t w b out = decrypt-published-is w b out v d (t .0) (t .1)
 open-is (masked M v d) t w b out = decrypt-masked-is w b out M v d (t .0) (t .1) (t .2)
 
--- Under any 240 bytes, and by any two ways.
-module _ {w block : List ℕ} (hw : Bytes 240 w) (hb : Bytes 16 block) (first second : List ℕ) (lf : length first ≡ 16) (ls : length second ≡ 16) where
+-- Under any bytes that are as many as a schedule has, and by any two ways.
+module _ {w block : List ℕ} {size : ℕ} (hw : Bytes size w) (is : scheduled size ≡ true) (hb : Bytes 16 block) (first second : List ℕ) (lf : length first ≡ 16) (ls : length second ≡ 16) where
   module _ (a a′ : Way) (t : Taken a) (t′ : Taken a′) where
     pub open-seal : openOf a′ w (sealOf a w block first .1) second ≡ (0, block)
-    open-seal = rw (open-is a′ t′ w (sealOf a w block first .1) second, seal-is a t w block first) (decrypt-encrypt hw hb first second lf ls)
+    open-seal = rw (open-is a′ t′ w (sealOf a w block first .1) second, seal-is a t w block first) (decrypt-encrypt hw is hb first second lf ls)
 
     pub seal-open : sealOf a′ w (openOf a w block first .1) second ≡ (0, block)
-    seal-open = rw (seal-is a′ t′ w (openOf a w block first .1) second, open-is a t w block first) (encrypt-decrypt hw hb first second lf ls)
+    seal-open = rw (seal-is a′ t′ w (openOf a w block first .1) second, open-is a t w block first) (encrypt-decrypt hw is hb first second lf ls)
 
   -- so it is of the masked calls alone
   module _ (v v′ : List ℕ) (d d′ : ℕ) (hv : Offsets v) (t : T (taken d)) (hv′ : Offsets v′) (t′ : T (taken d′)) where

@@ -12,6 +12,7 @@ use lines::source::kind_of;
 use lines::text::part;
 use lines::text::read_hex;
 use lines::vector;
+use lines::vector::Length;
 use lines::vector::Way;
 
 // Runs the first line of a text, and answers whether it could be read.
@@ -29,13 +30,17 @@ pub fn one_line(text: &[u8], counts: &mut [u64; CELLS]) -> bool {
     }
 }
 
-// Both ways, and as early modules stored it.
+// Both ways, and as early modules stored it, which had keys of 32 bytes.
 fn ecb(line: &[u8], counts: &mut [u64; CELLS]) -> bool {
     let v = vector::read(line);
+    let length = v.length;
+    let k = length.row();
     if v.read {
-        count(counts, table::ECB_ENCRYPTED, leads(Way::Encrypt, 1, v));
-        count(counts, table::ECB_DECRYPTED, leads(Way::Decrypt, 1, v));
-        add(counts, table::CONVERTED, converted(v));
+        count(counts, table::ECB_ENCRYPTED + k, leads(Way::Encrypt, 1, v));
+        count(counts, table::ECB_DECRYPTED + k, leads(Way::Decrypt, 1, v));
+        if k == 2 {
+            add(counts, table::CONVERTED, converted(v));
+        }
     }
     v.read
 }
@@ -50,13 +55,21 @@ fn chain(line: &[u8], way: Way, row: usize, counts: &mut [u64; CELLS]) -> bool {
 
 // A key and its schedule.
 fn key_expansion(line: &[u8], counts: &mut [u64; CELLS]) -> bool {
+    let digits = part(line, 0, b' ');
+    let length = Length::of(digits.len());
+    let n = length.key();
+    let e = length.schedule();
     let mut key = [0u8; 32];
     let mut schedule = [0u8; 240];
-    let first = read_hex(part(line, 0, b' '), &mut key);
-    let second = read_hex(part(line, 1, b' '), &mut schedule);
-    let read = first & second & (line.len() == 545);
+    let first = read_hex(digits, &mut key[0..n]);
+    let second = read_hex(part(line, 1, b' '), &mut schedule[0..e]);
+    let read = (0 < n) & first & second & (line.len() == 2 * n + 2 * e + 1);
     if read {
-        count(counts, table::KEY_EXPANSION, expands(&key, &schedule));
+        count(
+            counts,
+            table::KEY_EXPANSION,
+            expands(length, key, &schedule),
+        );
     }
     read
 }

@@ -46,6 +46,14 @@ fn the_library_judges_a_list() {
             assert_eq!(Pipes::new(&pipes(pids)), Err(Refusal::PipesWrong), "pipe {k} as pipe {other}");
         }
     }
+    for (k, short) in
+        (0..7).flat_map(|k| [Schedule::expand(&[k as u8; 16]), Schedule::expand(&[k as u8; 24])].map(|its| (k, its)))
+    {
+        let (mut even, mut odd) = (pipes(PIDS), pipes(PIDS));
+        even[k].even = short.clone();
+        odd[k].odd = short;
+        assert_eq!([even, odd].map(|pipes| Pipes::new(&pipes)), [Err(Refusal::PipesWrong), Err(Refusal::PipesWrong)], "pipe {k}");
+    }
     let longer = [list.as_bytes(), &[0; 498]].concat();
     for length in [0, 498, 6 * 498, 3485, 3487, 8 * 498] {
         assert_eq!(Pipes::try_from(&longer[..length]), Err(Refusal::PipesWrong), "{length}");

@@ -9,9 +9,9 @@ use crate::{convert, decrypt, encrypt, record_plain, Offsets};
 /// step. There is an offset for each byte of the block, which is the label of the first mask over it; the step is how far the labels
 /// advance in a round. [`Offsets::one`] makes those that one offset stands for.
 ///
-/// Refused, in this order: schedule not 240 bytes, input not 16, output not 16, not 16 offsets, any offset above 15, step 0, 2, 3 or
-/// above 15, form not 0. The form is there for callers that still name it: form 1 has retired, and [`convert`] is for what was stored
-/// in it.
+/// Refused, in this order: schedule not 176, 208 or 240 bytes, input not 16, output not 16, not 16 offsets, any offset above 15,
+/// step 0, 2, 3 or above 15, form not 0. The form is there for callers that still name it: form 1 has retired, and [`convert`] is
+/// for what was stored in it.
 ///
 /// ```
 /// use slipgrease::{Offset, Offsets, Refusal};
@@ -45,8 +45,9 @@ pub fn encrypt_published(
 /// Writes for each of up to 256 blocks what [`encrypt_published`] would, at the offsets that one of its own stands for, and with one
 /// step for all.
 ///
-/// Refused, in this order: schedule not 240 bytes, input not 16 for each of 256 blocks at most, output not as long as the input, not
-/// one offset for each block, any offset above 15, step 0, 2, 3 or above 15, form not 0. A call without blocks is done.
+/// Refused, in this order: schedule not 176, 208 or 240 bytes, input not 16 for each of 256 blocks at most, output not as long as
+/// the input, not one offset for each block, any offset above 15, step 0, 2, 3 or above 15, form not 0. A call without blocks is
+/// done.
 ///
 /// ```
 /// use slipgrease::Refusal;
@@ -74,8 +75,8 @@ pub fn encrypt_blocks(
 
 /// What [`encrypt_published`] writes, with any sixteen masks.
 ///
-/// Refused, in this order: schedule not 240 bytes, input not 16, output not 16, masks not 16, not 16 offsets, any offset above 15,
-/// step 0, 2, 3 or above 15, form not 0.
+/// Refused, in this order: schedule not 176, 208 or 240 bytes, input not 16, output not 16, masks not 16, not 16 offsets, any
+/// offset above 15, step 0, 2, 3 or above 15, form not 0.
 ///
 /// ```
 /// let (mut plain, mut masked) = ([0; 16], [0; 16]);
@@ -96,10 +97,10 @@ pub fn encrypt_masked(
     Refusal::check(calls::encrypt_masked(schedule, input, output, masks, offsets, step, form))
 }
 
-/// Writes the 71 states of a masked run, 1,136 bytes. Covered as they are, they give the key away as those of [`record_plain`] do.
+/// Writes the states of a masked run, as many as [`record_plain`] writes. Covered as they are, they give the key away as those do.
 ///
-/// Refused, in this order: schedule not 240 bytes, input not 16, masks not 16, not 16 offsets, any offset above 15, step 0, 2, 3 or
-/// above 15, record not 1,136.
+/// Refused, in this order: schedule not 176, 208 or 240 bytes, input not 16, masks not 16, not 16 offsets, any offset above 15,
+/// step 0, 2, 3 or above 15, record not 16 for each state.
 ///
 /// ```
 /// let (mut plain, mut covered) = ([0; 1136], [0; 1136]);
@@ -122,8 +123,8 @@ pub fn record_masked(
 /// Writes the block that a masked decryption with the published masks ends with: what [`decrypt`] writes, at all offsets and with
 /// every step. Neither need be those of the run which encrypted the block.
 ///
-/// Refused, in this order: schedule not 240 bytes, input not 16, output not 16, not 16 offsets, any offset above 15, step 0, 2, 3 or
-/// above 15.
+/// Refused, in this order: schedule not 176, 208 or 240 bytes, input not 16, output not 16, not 16 offsets, any offset above 15,
+/// step 0, 2, 3 or above 15.
 ///
 /// ```
 /// let (mut there, mut back) = ([0; 16], [0; 16]);
@@ -140,8 +141,8 @@ pub fn decrypt_published(schedule: &[u8], input: &[u8], output: &mut [u8], offse
 
 /// What [`decrypt_published`] writes, with any sixteen masks.
 ///
-/// Refused, in this order: schedule not 240 bytes, input not 16, output not 16, masks not 16, not 16 offsets, any offset above 15,
-/// step 0, 2, 3 or above 15.
+/// Refused, in this order: schedule not 176, 208 or 240 bytes, input not 16, output not 16, masks not 16, not 16 offsets, any
+/// offset above 15, step 0, 2, 3 or above 15.
 ///
 /// ```
 /// let (mut plain, mut masked) = ([0; 16], [0; 16]);
@@ -161,11 +162,12 @@ pub fn decrypt_masked(
     Refusal::check(calls::decrypt_masked(schedule, input, output, masks, offsets, step))
 }
 
-/// Writes the 85 states of a masked decryption, 1,360 bytes. Covered as they are, they give the key away: state 0 xor state 1 is
-/// round key 14, and state 4 xor state 5 is round key 13.
+/// Writes the states of a masked decryption, 16 bytes for each: 61 for ten rounds, which are 976 bytes, 73 for twelve, 1,168, and 85
+/// for fourteen, 1,360. Covered as they are, they give the key away: state 0 xor state 1 is the last round key, and state 4 xor state
+/// 5 is the one before.
 ///
-/// Refused, in this order: schedule not 240 bytes, input not 16, masks not 16, not 16 offsets, any offset above 15, step 0, 2, 3 or
-/// above 15, record not 1,360.
+/// Refused, in this order: schedule not 176, 208 or 240 bytes, input not 16, masks not 16, not 16 offsets, any offset above 15,
+/// step 0, 2, 3 or above 15, record not 16 for each state.
 ///
 /// ```
 /// let (mut output, mut states) = ([0; 16], [0; 1360]);

@@ -118,7 +118,7 @@ mod tests {
     #[test]
     fn calls_are_refused_in_their_order() {
         for key_data in 0..=280 {
-            for (schedule, offset) in [(240, 0), (240, 15), (240, 16), (240, 255), (239, 0), (241, 16)] {
+            for (schedule, offset) in [(240, 0), (240, 15), (240, 16), (240, 255), (239, 0), (241, 16), (176, 0), (208, 16)] {
                 for wrapped in [key_data + 8, key_data + 7, key_data + 9, key_data, 0] {
                     let lent = Lent { schedule, key_data, wrapped, offset };
                     for (call, masked, opens) in CALLS {

@@ -50,7 +50,7 @@ pub fn decrypt_masked(
     reply::DONE
 }
 
-// Writes the 85 states of a masked decryption.
+// Writes the states of a masked decryption: the covered block, and six for each round.
 pub fn record_masked_decryption(
     schedule: &[u8],
     input: &[u8],
@@ -61,7 +61,7 @@ pub fn record_masked_decryption(
 ) -> u8
     ensures { λ r. ⌜ (r, now (states .exit)) ≡ recordMaskedDecryptionOf (now (schedule .entry)) (now (input .entry)) (now (masks .entry)) (now (offsets .entry)) step (now (states .entry)) ⌝ }
 {
-    let refusal = record_refusal(schedule, input, masks, offsets, step, states, 1360);
+    let refusal = record_refusal(schedule, input, masks, offsets, step, states, 6);
     if refusal != reply::DONE {
         return refusal;
     }

@@ -1,9 +1,10 @@
 // Masked encryption of many blocks with the published masks, each at its own offset. Masks, boxes and compensations are made
 // once.
+ghost use mathlib.Core.Bool.{true};
 ghost use mathlib.Core.Path.{_≡_};
 ghost use Prim.Native.Nat.{_*_};
 ghost use lib.ListN.{length};
-ghost use Rattle.aes.specs.Reply.{refusal};
+ghost use Rattle.aes.specs.Reply.{refusal, scheduled};
 ghost use Rattle.masks.specs.Mask.{inRow};
 ghost use Rattle.masked.specs.Calls.{encryptBlocksOf, blocksChecks};
 ghost use Rattle.starts.specs.Each.{inTurn};
@@ -36,7 +37,7 @@ pub fn encrypt_blocks(
 
 // One block after the other, to its place in the output.
 fn in_turn(schedule: &[u8], input: &[u8], output: &mut [u8], offsets: &[u8], step: u8)
-    requires { ⌜ (length (now schedule) ≡ 240) × (length (now input) ≡ 16 * length (now offsets)) × (length (now output) ≡ 16 * length (now offsets)) ⌝ }
+    requires { ⌜ (scheduled (length (now schedule)) ≡ true) × (length (now input) ≡ 16 * length (now offsets)) × (length (now output) ≡ 16 * length (now offsets)) ⌝ }
     ensures { λ _. ⌜ now (output .exit) ≡ inRow (inTurn (now (schedule .entry)) (now (input .entry)) (now (offsets .entry)) step) (length (now (offsets .entry))) ⌝ }
 {
     let caller = Caller {};
@@ -63,7 +64,7 @@ fn in_turn(schedule: &[u8], input: &[u8], output: &mut [u8], offsets: &[u8], ste
 fn refusal(schedule: &[u8], input: &[u8], output: &[u8], offsets: &[u8], step: u8, form: u8) -> u8
     ensures { λ r. ⌜ r ≡ refusal (blocksChecks (now (schedule .entry)) (now (input .entry)) (now (output .entry)) (now (offsets .entry)) step form) ⌝ }
 {
-    if schedule.len() != 240 {
+    if aes::rounds_for(schedule.len()) == 0 {
         return reply::SCHEDULE_LENGTH;
     }
     if input.len() % 16 != 0 {

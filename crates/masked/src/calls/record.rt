@@ -7,7 +7,7 @@ use caller::Caller;
 use lent::given::Start;
 use starts::recorded;
 
-// Writes the 71 states of a masked run.
+// Writes the states of a masked run: the covered block, and five for each round.
 pub fn record_masked(
     schedule: &[u8],
     input: &[u8],
@@ -18,7 +18,7 @@ pub fn record_masked(
 ) -> u8
     ensures { λ r. ⌜ (r, now (states .exit)) ≡ recordMaskedOf (now (schedule .entry)) (now (input .entry)) (now (masks .entry)) (now (offsets .entry)) step (now (states .entry)) ⌝ }
 {
-    let refusal = record_refusal(schedule, input, masks, offsets, step, states, 1136);
+    let refusal = record_refusal(schedule, input, masks, offsets, step, states, 5);
     if refusal != reply::DONE {
         return refusal;
     }

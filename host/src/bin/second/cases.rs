@@ -12,24 +12,25 @@ use crate::counts::ROUNDS;
 use crate::lent::{Buffer, Lent};
 use crate::masked::PUBLISHED;
 use crate::random::Random;
-use crate::replies::{record_length, takes_many, Cause};
+use crate::replies::{record_length, takes_many, Cause, KEYS, SCHEDULES};
 
 /// The lengths that calls take: each is the wrong one for another buffer.
-const LENGTHS: [usize; 11] = [16, 21, 22, 24, 32, 188, 240, 264, 1136, 1360, 3486];
+const LENGTHS: [usize; 16] = [16, 21, 22, 24, 32, 176, 188, 208, 240, 264, 816, 976, 1136, 1168, 1360, 3486];
 
 /// For a call that has such an order of refusals. Broken has the causes that are wanted.
 pub fn draw(random: &mut Random, boxes: &Boxes, order: &[Cause], broken: &[Cause]) -> Lent {
     let wants = |cause: Cause| broken.contains(&cause);
     let many = takes_many(order);
-    let key = bytes(random, 32, wants(Cause::Key));
-    let schedule = schedule(random, boxes, wants(Cause::Schedule));
+    let key = one_of(random, &KEYS, wants(Cause::Key));
+    let schedule = schedule(random, boxes, order, key.len(), wants);
     let input =
         if many { blocks(random, wants(Cause::Blocks), wants(Cause::AnyOffset)) } else { bytes(random, 16, wants(Cause::Input)) };
     let output = bytes(random, if many { input.len() } else { 16 }, wants(Cause::Output) || wants(Cause::Room));
     let offsets = offsets(random, input.len() / 16, wants(Cause::OffsetCount), wants(Cause::AnyOffset));
     let byte_offsets = byte_offsets(random, wants(Cause::ByteOffsetCount), wants(Cause::ByteOffset));
     let masks = if wants(Cause::Masks) { bytes(random, 16, true) } else { masks(random).to_vec() };
-    let states = bytes(random, record_length(order), wants(Cause::States) || wants(Cause::DecryptionStates));
+    let right = record_length(order, schedule.len()).unwrap_or(1136);
+    let states = bytes(random, right, wants(Cause::States) || wants(Cause::DecryptionStates));
     let step = step(random, wants(Cause::Step));
     let sheet = sheet(random, wants);
     let blank = bytes(random, if step == 1 { 21 } else { 22 }, wants(Cause::BlankLength));
@@ -87,6 +88,15 @@ fn wrong_length(random: &mut Random, right: usize) -> usize {
 
 fn bytes(random: &mut Random, right: usize, wrong: bool) -> Vec<u8> {
     let length = if wrong { wrong_length(random, right) } else { right };
+    content(random, length)
+}
+
+/// As long as one of some lengths, each as often; wrong, as none of them.
+fn one_of(random: &mut Random, lengths: &[usize], wrong: bool) -> Vec<u8> {
+    let mut length = lengths[random.below(lengths.len())];
+    while wrong && lengths.contains(&length) {
+        length = wrong_length(random, length);
+    }
     content(random, length)
 }
 
@@ -174,12 +184,23 @@ fn form(random: &mut Random, wrong: bool) -> u8 {
     }
 }
 
-/// That of a key, or any bytes.
-fn schedule(random: &mut Random, boxes: &Boxes, wrong: bool) -> Vec<u8> {
-    if !wrong && random.below(4) == 0 {
-        return expand_key(boxes, &random.bytes(32));
+/// That of a key, or any bytes; where one length alone is right, often as long as that of another key.
+fn schedule(random: &mut Random, boxes: &Boxes, order: &[Cause], key: usize, wants: impl Fn(Cause) -> bool) -> Vec<u8> {
+    let which = match KEYS.iter().position(|&length| length == key) {
+        Some(which) if order.contains(&Cause::ScheduleOfKey) => which,
+        _ if order.contains(&Cause::FullSchedule) => 2,
+        _ => random.below(3),
+    };
+    let (key, right) = (KEYS[which], SCHEDULES[which]);
+    let other = SCHEDULES[(which + 1 + random.below(2)) % 3];
+    let wrong_alone = wants(Cause::ScheduleOfKey) || wants(Cause::FullSchedule);
+    match random.below(4) {
+        _ if wants(Cause::Schedule) => one_of(random, &SCHEDULES, true),
+        0 | 1 if wrong_alone => content(random, other),
+        _ if wrong_alone => bytes(random, right, true),
+        0 => expand_key(boxes, &random.bytes(key)),
+        _ => content(random, right),
     }
-    bytes(random, 240, wrong)
 }
 
 /// The published masks, one mask for all, sixteen different ones, two that are equal, fit ones, nearly fit ones, or random.

@@ -1,4 +1,5 @@
-//! AES-256 as FIPS 197 writes it: the transformations on a state, key expansion, CIPHER, INVCIPHER and the recorded runs.
+//! AES as FIPS 197 writes it, with keys of 16, 24 and 32 bytes: the transformations on a state, key expansion, CIPHER, INVCIPHER and
+//! the recorded runs.
 
 use crate::field::{s_box, times};
 use std::array::from_fn;
@@ -93,40 +94,48 @@ pub fn add_round_key(s: &State, schedule: &[u8], round: usize) -> State {
     from_fn(|i| s[i] ^ schedule[16 * round + i])
 }
 
-/// KEYEXPANSION for eight words of key, sixty in all.
+/// How many rounds a schedule is for: it has a round key for each, and one more.
+pub fn rounds(schedule: &[u8]) -> usize {
+    schedule.len() / 16 - 1
+}
+
+/// KEYEXPANSION for nk words of key: nk + 6 rounds, and four words for each and before the first.
 pub fn expand_key(boxes: &Boxes, key: &[u8]) -> Vec<u8> {
     let mut words: Vec<[u8; 4]> = key.chunks(4).map(|w| [w[0], w[1], w[2], w[3]]).collect();
+    let nk = words.len();
     let mut constant = 1;
-    for i in 8..60 {
+    for i in nk..4 * (nk + 6 + 1) {
         let mut temp = words[i - 1];
-        if i % 8 == 0 {
+        if i % nk == 0 {
             temp.rotate_left(1);
             temp = temp.map(|x| boxes.s(x));
             temp[0] ^= constant;
             constant = times(constant, 2);
-        } else if i % 8 == 4 {
+        } else if nk > 6 && i % nk == 4 {
             temp = temp.map(|x| boxes.s(x));
         }
-        let earlier = words[i - 8];
+        let earlier = words[i - nk];
         words.push(from_fn(|k| earlier[k] ^ temp[k]));
     }
     words.concat()
 }
 
-/// CIPHER with fourteen rounds.
+/// CIPHER with the rounds of a schedule.
 pub fn encrypt(boxes: &Boxes, schedule: &[u8], block: &State) -> State {
+    let last = rounds(schedule);
     let mut s = add_round_key(block, schedule, 0);
-    for round in 1..=13 {
+    for round in 1..last {
         s = mix_columns(&shift_rows(&boxes.sub_bytes(&s)));
         s = add_round_key(&s, schedule, round);
     }
-    add_round_key(&shift_rows(&boxes.sub_bytes(&s)), schedule, 14)
+    add_round_key(&shift_rows(&boxes.sub_bytes(&s)), schedule, last)
 }
 
-/// INVCIPHER with fourteen rounds: the inverse steps in the inverse order.
+/// INVCIPHER with the same rounds: the inverse steps in the inverse order.
 pub fn decrypt(boxes: &Boxes, schedule: &[u8], block: &State) -> State {
-    let mut s = add_round_key(block, schedule, 14);
-    for round in (1..=13).rev() {
+    let last = rounds(schedule);
+    let mut s = add_round_key(block, schedule, last);
+    for round in (1..last).rev() {
         s = boxes.inv_sub_bytes(&inv_shift_rows(&s));
         s = inv_mix_columns(&add_round_key(&s, schedule, round));
     }
@@ -141,25 +150,27 @@ pub fn record(direction: Direction, boxes: &Boxes, schedule: &[u8], block: &Stat
     }
 }
 
-/// 71 of CIPHER.
+/// Five of each round of CIPHER, and one before.
 fn record_cipher(boxes: &Boxes, schedule: &[u8], block: &State) -> Vec<State> {
+    let last = rounds(schedule);
     let mut states = vec![*block];
     let mut s = *block;
-    for round in 0..=13 {
+    for round in 0..last {
         let keyed = add_round_key(&s, schedule, round);
         let boxed = boxes.sub_bytes(&keyed);
         let shifted = shift_rows(&boxed);
-        s = if round < 13 { mix_columns(&shifted) } else { add_round_key(&shifted, schedule, 14) };
+        s = if round + 1 < last { mix_columns(&shifted) } else { add_round_key(&shifted, schedule, last) };
         states.extend([keyed, boxed, shifted, s, s]);
     }
     states
 }
 
-/// 85 of INVCIPHER.
+/// Six of each round of INVCIPHER, and one before: the first round key stands there too, and the last round mixes no columns.
 fn record_inv_cipher(boxes: &Boxes, schedule: &[u8], block: &State) -> Vec<State> {
-    let mut s = add_round_key(block, schedule, 14);
+    let last = rounds(schedule);
+    let mut s = add_round_key(block, schedule, last);
     let mut states = vec![*block, s];
-    for round in (0..=13).rev() {
+    for round in (0..last).rev() {
         let unshifted = inv_shift_rows(&s);
         let unboxed = boxes.inv_sub_bytes(&unshifted);
         let keyed = add_round_key(&unboxed, schedule, round);

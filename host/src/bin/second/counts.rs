@@ -44,7 +44,7 @@ fn shown(masking: &Masking, counted: Counted, round: usize) -> Option<u8> {
     (x < y && y < z && z < 8).then(|| [z, y, x].iter().fold(0, |pattern, bit| 2 * pattern + (byte >> bit & 1)))
 }
 
-/// The mask over the state of a row.
+/// The mask over the state of a row; the last is behind the last round, of which there are as many as any key has.
 fn mask_over(row: u8, masking: &Masking, round: usize) -> Option<State> {
     let after_boxes = masking.mask(round + 1);
     match row {
@@ -53,7 +53,7 @@ fn mask_over(row: u8, masking: &Masking, round: usize) -> Option<State> {
         3 | 6 => Some(after_boxes),
         4 => Some(shift_rows(&after_boxes)),
         5 => Some(mix_columns(&shift_rows(&after_boxes))),
-        7 => Some(shift_rows(&masking.mask(14))),
+        7 => Some(shift_rows(&masking.mask([10, 12, 14][round % 3]))),
         _ => None,
     }
 }

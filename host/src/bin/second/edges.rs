@@ -1,6 +1,7 @@
 //! The edges that the scope and the requests name, one by one.
 
 mod counts;
+mod keys;
 mod offsets;
 mod packets;
 mod records;
@@ -24,7 +25,11 @@ pub struct Edge {
 pub fn compare(spoiled: bool) -> Tally {
     let mut tally = Tally::default();
     let edges = [
-        lengths_of_keys(),
+        keys::lengths(),
+        keys::expanded(),
+        keys::ciphertexts(),
+        keys::refused_records(),
+        keys::last_masks(),
         huge(),
         offsets_and_forms(),
         offsets::refused(),
@@ -47,6 +52,7 @@ pub fn compare(spoiled: bool) -> Tally {
         records::box_order(),
         wraps::examples(),
         wraps::refused(),
+        wraps::schedules(),
         wraps::broken(),
         packets::example(),
         packets::fields(),
@@ -65,13 +71,6 @@ pub fn compare(spoiled: bool) -> Tally {
 
 fn edge(name: impl Into<String>, given: impl Into<u16>, expected: u16) -> Edge {
     Edge { name: name.into(), given: given.into(), expected }
-}
-
-fn lengths_of_keys() -> Vec<Edge> {
-    let expanded = |length: usize| calls::expand_key(&vec![0; length], &mut [0; 240]);
-    [(31, 1), (33, 1), (0, 1), (32, 0), (16, 1), (24, 1)]
-        .map(|(length, expected)| edge(format!("reply to a key of {length} bytes"), expanded(length), expected))
-        .into()
 }
 
 /// A mebibyte where a few bytes are wanted.

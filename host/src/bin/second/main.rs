@@ -1,7 +1,8 @@
 //! The independent second program: `second SEED CASES [SPOILED]` compares every public call of the library with an
 //! implementation of its own, on so many cases drawn from the seed, on every step, every form, every offset of every byte, every
-//! length of key data and every header of a packet where there is one, on all counts of some mask tables, and on all inputs of the
-//! calls that take bytes alone; and it compares blocks, keys and packets with themselves, sealed and opened again.
+//! length of a schedule beside those of keys and records, every length of key data and every header of a packet where there is one,
+//! on all counts of some mask tables, and on all inputs of the calls that take bytes alone; and it compares blocks, keys and packets
+//! with themselves, sealed and opened again.
 //!
 //! It prints for each call how many cases were compared and how many differ, and fails where any does. SPOILED names a call, or
 //! `edges`: what is expected of it is then changed, so that each of its cases must differ.
@@ -19,6 +20,7 @@ mod compare;
 mod counts;
 mod edges;
 mod field;
+mod keys;
 mod lent;
 mod masked;
 mod offsets;
@@ -74,7 +76,7 @@ fn all(seed: u64, cases: usize, spoiled: &str) -> bool {
         let is_first = call.name != name_before;
         let trial = || Trial { call, boxes: &boxes, spoiled: call.name == spoiled, tally: Tally::default() };
         let [mut drawn, mut every_step, mut every_form, mut every_byte] = [(); 4].map(|()| trial());
-        let [mut every_length, mut every_header] = [(); 2].map(|()| trial());
+        let [mut every_schedule, mut every_length, mut every_header] = [(); 3].map(|()| trial());
         compare(&mut drawn, &mut random, cases);
         report.row(call.name, call.method, drawn.tally);
         if steps::compare(&mut every_step, &mut random) {
@@ -82,6 +84,9 @@ fn all(seed: u64, cases: usize, spoiled: &str) -> bool {
         }
         if compare_forms(&mut every_form, &mut random) {
             report.row(call.name, "the same in every form", every_form.tally);
+        }
+        if is_first && keys::compare(&mut every_schedule, &mut random) {
+            report.row(call.name, "every length of a schedule", every_schedule.tally);
         }
         if is_first && offsets::compare(&mut every_byte, &mut random) {
             report.row(call.name, "every offset of every byte", every_byte.tally);

@@ -1,6 +1,8 @@
 //! The masked run of document 002, its last box label and its last constant as the scope corrects them, and the masked decryption.
 
-use crate::cipher::{add, add_round_key, inv_mix_columns, inv_shift_rows, mix_columns, shift_rows, Boxes, Direction, State};
+use crate::cipher::{
+    add, add_round_key, inv_mix_columns, inv_shift_rows, mix_columns, rounds, shift_rows, Boxes, Direction, State,
+};
 use crate::lent::Lent;
 use std::array::from_fn;
 
@@ -68,15 +70,16 @@ impl Masking {
     }
 
     fn encryption(&self, boxes: &Boxes, schedule: &[u8], block: &State) -> Vec<State> {
+        let last = rounds(schedule);
         let mut s = add(block, &self.mask(0));
         let mut states = vec![s];
-        for round in 0..=13 {
+        for round in 0..last {
             let keyed = add_round_key(&s, schedule, round);
             let boxed = self.boxes(|x| boxes.s(x), &keyed, round);
             let shifted = shift_rows(&boxed);
-            let (next, constant) = match round {
-                13 => (add_round_key(&shifted, schedule, 14), shift_rows(&self.mask(14))),
-                _ => (mix_columns(&shifted), self.constant(1 + round, |mask| mix_columns(&shift_rows(mask)))),
+            let (next, constant) = match 1 + round < last {
+                true => (mix_columns(&shifted), self.constant(1 + round, |mask| mix_columns(&shift_rows(mask)))),
+                false => (add_round_key(&shifted, schedule, last), shift_rows(&self.mask(last))),
             };
             s = add(&next, &constant);
             states.extend([keyed, boxed, shifted, next, s]);
@@ -85,58 +88,60 @@ impl Masking {
     }
 
     fn decryption(&self, boxes: &Boxes, schedule: &[u8], block: &State) -> Vec<State> {
+        let last = rounds(schedule);
         let covered = add(block, &self.mask(0));
-        let mut s = add_round_key(&covered, schedule, 14);
+        let mut s = add_round_key(&covered, schedule, last);
         let mut states = vec![covered, s];
-        for round in 0..=13 {
+        for round in 0..last {
             let unshifted = inv_shift_rows(&s);
             let corrected = add(&unshifted, &self.constant(round, inv_shift_rows));
             let unboxed = self.boxes(|x| boxes.inv_s(x), &corrected, round);
-            let keyed = add_round_key(&unboxed, schedule, 13 - round);
+            let keyed = add_round_key(&unboxed, schedule, last - 1 - round);
             states.extend([unshifted, corrected, unboxed, keyed]);
-            if round < 13 {
+            if 1 + round < last {
                 let unmixed = inv_mix_columns(&keyed);
                 s = add(&unmixed, &self.constant(1 + round, inv_mix_columns));
                 states.extend([unmixed, s]);
             } else {
-                states.push(add(&keyed, &self.mask(14)));
+                states.push(add(&keyed, &self.mask(last)));
             }
         }
         states
     }
 }
 
-/// The mask that lies at each point of a run, row by row as the tables have them; mask gives that after so many rounds.
-pub fn masks_at_points(direction: Direction, mask: impl Fn(usize) -> State) -> Vec<State> {
+/// The mask that lies at each point of a run of so many rounds, row by row as the tables have them; mask gives that after some of
+/// them.
+pub fn masks_at_points(direction: Direction, rounds: usize, mask: impl Fn(usize) -> State) -> Vec<State> {
     match direction {
-        Direction::Encryption => masks_encrypting(mask),
-        Direction::Decryption => masks_decrypting(mask),
+        Direction::Encryption => masks_encrypting(rounds, mask),
+        Direction::Decryption => masks_decrypting(rounds, mask),
     }
 }
 
 /// As the scope's table has them.
-fn masks_encrypting(mask: impl Fn(usize) -> State) -> Vec<State> {
+fn masks_encrypting(rounds: usize, mask: impl Fn(usize) -> State) -> Vec<State> {
     let mut masks = vec![mask(0)];
-    for round in 0..=12 {
+    for round in 0..rounds - 1 {
         let after = mask(round + 1);
         let shifted = shift_rows(&after);
         masks.extend([mask(round), after, shifted, mix_columns(&shifted), after]);
     }
-    let after = mask(14);
+    let after = mask(rounds);
     let shifted = shift_rows(&after);
-    masks.extend([mask(13), after, shifted, shifted, [0; 16]]);
+    masks.extend([mask(rounds - 1), after, shifted, shifted, [0; 16]]);
     masks
 }
 
 /// The boxes take the mask of their round and give that of the next; a mask that was moved is put back at the next point.
-fn masks_decrypting(mask: impl Fn(usize) -> State) -> Vec<State> {
+fn masks_decrypting(rounds: usize, mask: impl Fn(usize) -> State) -> Vec<State> {
     let mut masks = vec![mask(0), mask(0)];
-    for round in 0..=13 {
+    for round in 0..rounds {
         let (taken, given) = (mask(round), mask(round + 1));
         masks.extend([inv_shift_rows(&taken), taken, given, given]);
-        match round {
-            13 => masks.push([0; 16]),
-            _ => masks.extend([inv_mix_columns(&given), given]),
+        match round + 1 < rounds {
+            true => masks.extend([inv_mix_columns(&given), given]),
+            false => masks.push([0; 16]),
         }
     }
     masks

@@ -8,7 +8,7 @@ use crate::random::Random;
 use crate::replies::{takes_byte_offsets, Cause};
 
 /// Beside each up to 40: those of other buffers, and 272 and 65,552, which are 16 in their lowest eight and sixteen bits.
-const LENGTHS: [usize; 8] = [64, 188, 240, 256, 272, 1136, 1360, 65_552];
+const LENGTHS: [usize; 9] = [64, 176, 188, 208, 240, 256, 272, 1136, 65_552];
 
 /// Whether the call takes them, and so has been compared.
 pub fn compare(trial: &mut Trial, random: &mut Random) -> bool {

@@ -7,12 +7,17 @@ use crate::packet::{has_block, payload_start, pipe_of, pipes, Header, PACKET, SY
 use crate::wrap::{unwrapped, INITIAL};
 
 /// What a call can find wrong. A reply number can have several causes: a sheet is measured twice where it is read, for many
-/// blocks lengths are measured otherwise than for one, there can be one offset or several, and a record has the length of its
-/// direction.
+/// blocks lengths are measured otherwise than for one, there can be one offset or several, a schedule is measured by its key or by
+/// itself, and a record has the length of its direction and its schedule.
 #[derive(Clone, Copy, Debug, PartialEq)]
 pub enum Cause {
     Key,
+    /// Of a key: a buffer that is not as long as its schedule.
+    ScheduleOfKey,
+    /// Of a run: as long as no key's schedule.
     Schedule,
+    /// Of key wrap: not as long as the schedule of a 32-byte key.
+    FullSchedule,
     Input,
     Output,
     /// Of many blocks: not whole ones, or too many.
@@ -32,7 +37,7 @@ pub enum Cause {
     Step,
     Form,
     States,
-    /// Of a decryption, whose record is longer.
+    /// Of a decryption, whose record is longer than that of an encryption with the same schedule.
     DecryptionStates,
     /// A sheet to read that is too short for mark and version.
     SheetHead,
@@ -101,20 +106,30 @@ pub fn takes_key_data(length: usize) -> bool {
     (2..=32).any(|values| length == 8 * values)
 }
 
-/// How long the record is of a call with these refusals.
-pub fn record_length(order: &[Cause]) -> usize {
-    if order.contains(&Cause::DecryptionStates) {
-        1360
-    } else {
-        1136
-    }
+/// How long a key can be.
+pub const KEYS: [usize; 3] = [16, 24, 32];
+
+/// How long the schedules of these keys are, and the records of runs with them.
+pub const SCHEDULES: [usize; 3] = [176, 208, 240];
+const RECORDS: [usize; 3] = [816, 976, 1136];
+const DECRYPTION_RECORDS: [usize; 3] = [976, 1168, 1360];
+
+/// How long the schedule is of a key that is so long, where one can be.
+pub fn schedule_length(key: usize) -> Option<usize> {
+    KEYS.iter().position(|&length| length == key).map(|which| SCHEDULES[which])
+}
+
+/// How long the record is of a call with these refusals, with a schedule that is so long, where one can be.
+pub fn record_length(order: &[Cause], schedule: usize) -> Option<usize> {
+    let records = if order.contains(&Cause::DecryptionStates) { DECRYPTION_RECORDS } else { RECORDS };
+    SCHEDULES.iter().position(|&length| length == schedule).map(|which| records[which])
 }
 
 impl Cause {
     pub fn number(self) -> u8 {
         match self {
             Cause::Key => 1,
-            Cause::Schedule => 2,
+            Cause::ScheduleOfKey | Cause::Schedule | Cause::FullSchedule => 2,
             Cause::Input | Cause::Blocks => 3,
             Cause::Output | Cause::Room => 4,
             Cause::Masks => 5,
@@ -144,9 +159,12 @@ impl Cause {
         let (sheet, blank) = (lent.sheet.lent(), lent.blank.lent());
         let (key_data, wrapped) = (lent.key_data.lent(), lent.wrapped.lent());
         let packet = lent.packet.lent();
+        let (key, schedule, states) = (lent.key.lent().len(), lent.schedule.lent().len(), lent.states.lent().len());
         match self {
-            Cause::Key => lent.key.lent().len() != 32,
-            Cause::Schedule => lent.schedule.lent().len() != 240,
+            Cause::Key => !KEYS.contains(&key),
+            Cause::ScheduleOfKey => Some(schedule) != schedule_length(key),
+            Cause::Schedule => !SCHEDULES.contains(&schedule),
+            Cause::FullSchedule => schedule != 240,
             Cause::Input => input.len() != 16,
             Cause::Output => lent.output.lent().len() != 16,
             Cause::Blocks => input.len() % 16 != 0 || input.len() > 256 * 16,
@@ -159,8 +177,7 @@ impl Cause {
             Cause::ByteOffsetCount => lent.byte_offsets.lent().len() != 16,
             Cause::Step => !takes_step(lent.step),
             Cause::Form => lent.form != 0,
-            Cause::States => lent.states.lent().len() != 1136,
-            Cause::DecryptionStates => lent.states.lent().len() != 1360,
+            Cause::States | Cause::DecryptionStates => Some(states) != record_length(&[self], schedule),
             Cause::SheetHead => sheet.len() < 5,
             Cause::Mark => !sheet.starts_with(b"MSK"),
             Cause::Version => sheet[3..5] != [0, 1] && sheet[3..5] != [0, 2],

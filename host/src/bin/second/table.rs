@@ -10,7 +10,7 @@ mod stored;
 mod wraps;
 
 use crate::answer::Answer;
-use crate::cipher::{add, record, Boxes, Direction, State};
+use crate::cipher::{add, record, rounds, Boxes, Direction, State};
 use crate::lent::{Buffer, Lent};
 use crate::masked::{masks_at_points, of_one, Masking};
 use crate::replies::Cause;
@@ -62,7 +62,7 @@ fn masked_record(direction: Direction, boxes: &Boxes, lent: &mut Lent) -> u8 {
 
 /// The states of a plain run, each under the mask that lies at its point; mask gives that after so many rounds.
 fn covered_record(direction: Direction, mask: impl Fn(usize) -> State, boxes: &Boxes, lent: &mut Lent) -> u8 {
-    let masks = masks_at_points(direction, mask);
+    let masks = masks_at_points(direction, rounds(lent.schedule.lent()), mask);
     let covered =
         plain_states(direction, boxes, lent).iter().zip(&masks).map(|(state, mask)| add(state, mask)).collect::<Vec<_>>();
     write(&mut lent.states, &covered.concat())

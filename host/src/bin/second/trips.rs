@@ -5,7 +5,7 @@ use crate::cases::draw;
 use crate::cipher::Boxes;
 use crate::lent::Lent;
 use crate::random::Random;
-use crate::replies::Cause;
+use crate::replies::{record_length, Cause};
 use crate::report::{Report, Tally};
 use slipgrease::calls;
 
@@ -35,7 +35,8 @@ const ENCRYPTING: [Maker; 5] = [
     Maker {
         name: "record_masked",
         make: |w, block, l| {
-            last_of(made(1136, |to| calls::record_masked(w, block, l.masks.lent(), l.byte_offsets.lent(), l.step, to)))
+            let (masks, offsets) = (l.masks.lent(), l.byte_offsets.lent());
+            last_recorded(Cause::States, w, |to| calls::record_masked(w, block, masks, offsets, l.step, to))
         },
     },
 ];
@@ -53,7 +54,8 @@ const DECRYPTING: [Maker; 4] = [
     Maker {
         name: "record_masked_decryption",
         make: |w, block, l| {
-            last_of(made(1360, |to| calls::record_masked_decryption(w, block, l.masks.lent(), l.byte_offsets.lent(), l.step, to)))
+            let (masks, offsets) = (l.masks.lent(), l.byte_offsets.lent());
+            last_recorded(Cause::DecryptionStates, w, |to| calls::record_masked_decryption(w, block, masks, offsets, l.step, to))
         },
     },
 ];
@@ -85,7 +87,7 @@ struct Load {
 }
 
 const BLOCK: Load = Load { order: &[], under: |l| l.schedule.lent(), body: |l| l.input.lent() };
-const KEY_DATA: Load = Load { order: &[], under: |l| l.schedule.lent(), body: |l| l.key_data.lent() };
+const KEY_DATA: Load = Load { order: &[Cause::FullSchedule], under: |l| l.schedule.lent(), body: |l| l.key_data.lent() };
 const PACKET: Load =
     Load { order: &[Cause::Packet, Cause::BitsToScramble], under: |l| l.pipes.lent(), body: |l| l.packet.lent() };
 
@@ -95,9 +97,10 @@ fn made(length: usize, call: impl Fn(&mut [u8]) -> u8) -> Option<Vec<u8>> {
     (call(&mut written) == 0).then_some(written)
 }
 
-/// The last block of a record.
-fn last_of(record: Option<Vec<u8>>) -> Option<Vec<u8>> {
-    record.map(|states| states[states.len() - 16..].to_vec())
+/// The last block of the record that a call writes under a schedule. The cause is the one for which it refuses other lengths.
+fn last_recorded(length: Cause, schedule: &[u8], call: impl Fn(&mut [u8]) -> u8) -> Option<Vec<u8>> {
+    let states = made(record_length(&[length], schedule.len())?, call)?;
+    Some(states[states.len() - 16..].to_vec())
 }
 
 /// A row for each call that opens, and for each that decrypts another row the other way about. Spoiled is the call of which every

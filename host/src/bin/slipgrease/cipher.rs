@@ -4,16 +4,16 @@ use crate::fault::Fault;
 use crate::hex::digits;
 use crate::shown::{brief, count};
 use crate::words::{Given, GivenOffsets, Number, Words};
-use slipgrease::Refusal;
+use slipgrease::{Refusal, Schedule};
 use std::io::Write;
 
 /// The option for a key that is not to be seen among the arguments.
 const KEY_FILE: &str = "key-file";
 
-/// A schedule: that of a key, an argument or in a file, or the one that --schedule gives, which any 240 bytes are.
+/// A schedule: that of a key, an argument or in a file, or the one that --schedule gives, which any 176, 208 or 240 bytes are.
 #[derive(Clone)]
 pub struct Keyed {
-    given: Given,
+    pub given: Given,
     pub bytes: Vec<u8>,
 }
 
@@ -37,9 +37,8 @@ impl Keyed {
     }
 
     pub fn expand(given: Given) -> Result<Keyed, Fault> {
-        let mut bytes = vec![0; 240];
-        match slipgrease::expand_key(&given.bytes, &mut bytes) {
-            Ok(()) => Ok(Keyed { given, bytes }),
+        match Schedule::expand_slice(&given.bytes) {
+            Ok(schedule) => Ok(Keyed { given, bytes: schedule.as_bytes().to_vec() }),
             Err(refusal) => Err(given.refused(refusal)),
         }
     }
@@ -65,7 +64,7 @@ pub fn explained(refusal: Refusal, keyed: &Keyed, block: &Given, masking: Option
     }
 }
 
-/// Fifteen round keys, one to a line.
+/// Eleven, thirteen or fifteen round keys, one to a line.
 pub fn expand(words: &mut Words, out: &mut dyn Write) -> Result<(), Fault> {
     let file = words.bytes_in(KEY_FILE, "key")?;
     let key = file.map_or_else(|| words.bytes("key"), Ok)?;

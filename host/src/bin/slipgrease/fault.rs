@@ -33,10 +33,11 @@ impl Fault {
         self.status == 1 || self.status == 2
     }
 
-    /// A refusal of the library. Of one block or one number it is said what it should be; of all else, in the library's own words,
-    /// what was wrong.
+    /// A refusal of the library. Of a schedule, one block or one number it is said what it should be; of all else, in the library's
+    /// own words, what was wrong.
     pub fn refused(refusal: Refusal, seen: &str) -> Fault {
         let said = match refusal {
+            Refusal::ScheduleLength => "a schedule is 176, 208 or 240 bytes",
             Refusal::InputLength => "a block is 16 bytes",
             Refusal::OffsetRange => "an offset is 0 to 15",
             Refusal::OffsetPerByte => "one is expected, or sixteen with commas between them",

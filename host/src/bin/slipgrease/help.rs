@@ -1,6 +1,7 @@
 //! What `--help` says. Each example is run by a test, and what stands under it is what it prints.
 
 mod commands;
+mod record;
 
 use commands::HELPS;
 
@@ -18,7 +19,8 @@ Bytes are hex digits, two for each. An argument that is missing or is - is read 
 - is standard input or output too where a file is named. An option and its value may be joined by =, and after -- nothing is taken
 as an option.
 
-Arguments are seen by others (ps, the shell's history): so give a key by --key-file FILE, or as - on standard input.
+A key is 16, 24 or 32 bytes, and 32 where it wraps others or scrambles packets. Arguments are seen by others (ps, the shell's
+history): so give a key by --key-file FILE, or as - on standard input.
 
 The status is 0 where a command is done, 1 for a caller fault or a failure to read or write, 2 for a data fault, and 3 where it is
 done and the answer is no; a refusal is told with the library's reply number.
@@ -28,7 +30,7 @@ done and the answer is no; a refusal is told with the library's reply number.
 pub fn all() -> String {
     let lines: Vec<String> = HELPS.iter().map(|help| format!("  {:<12}{}\n", help.name, help.summary)).collect();
     format!(
-        "slipgrease COMMAND ..: AES-256 block by block, plain and masked, key wrap and packets, by a proved library\n\n{}\n\
+        "slipgrease COMMAND ..: AES block by block, plain and masked, key wrap and packets, by a proved library\n\n{}\n\
          slipgrease COMMAND --help says more, with an example; slipgrease --version names the version.\n\n{STATUS}",
         lines.concat()
     )

@@ -36,7 +36,8 @@ struct Made {
     at_the_rack: Block,
     step: Step,
     in_the_module: Vec<InTheModule>,
-    /// How many recorded states, and how many of their bytes, differ from the rack's.
+    /// How many states are recorded of a run; and how many of them, and of their bytes, differ from the rack's.
+    recorded: usize,
     states: Range,
     bytes: Range,
 }
@@ -61,7 +62,7 @@ impl Made {
             InTheModule { offset, covered: *covered.state(0), key, equal: key == at_the_rack }
         });
         let in_the_module = in_the_module.collect();
-        Made { block, at_the_rack, step, in_the_module, states, bytes }
+        Made { block, at_the_rack, step, in_the_module, recorded: plain.states().count(), states, bytes }
     }
 
     fn equal(&self) -> usize {
@@ -78,8 +79,9 @@ impl Made {
             writeln!(out, "  {number:>2}  {}  {}  {equal}", digits(covered), digits(key))?;
         }
         let gives = if self.equal() == 1 { "gives" } else { "give" };
-        writeln!(out, "{} of 16 offsets {gives} the rack's key. On the way {} of 71 recorded states", self.equal(), self.states)?;
-        writeln!(out, "differ from the rack's, in {} of 1136 bytes.", self.bytes)
+        let (equal, recorded) = (self.equal(), self.recorded);
+        writeln!(out, "{equal} of 16 offsets {gives} the rack's key. On the way {} of {recorded} recorded states", self.states)?;
+        writeln!(out, "differ from the rack's, in {} of {} bytes.", self.bytes, 16 * recorded)
     }
 
     fn print_json(&self, out: &mut dyn Write) -> io::Result<()> {
@@ -92,7 +94,8 @@ impl Made {
             writeln!(out, "\"equal\": {equal}}}{comma}")?;
         }
         writeln!(out, "  ],\n  \"equal\": {},", self.equal())?;
-        writeln!(out, "  \"states_differ\": {},\n  \"bytes_differ\": {}\n}}", self.states.json(71), self.bytes.json(1136))
+        let (states, bytes) = (self.states.json(self.recorded), self.bytes.json(16 * self.recorded));
+        writeln!(out, "  \"states_differ\": {states},\n  \"bytes_differ\": {bytes}\n}}")
     }
 }
 

@@ -63,6 +63,9 @@ pub fn record(words: &mut Words, out: &mut dyn Write) -> Result<(), Fault> {
     let first = Asked { direction, keyed, block, offsets_called: "o", masking: masking(offsets, step, masks)? };
     let first = Run::new(first)?;
     let second = if two.is_some() { Some(Run::new(second)?) } else { None };
+    if let Some(second) = &second {
+        of_one_length(&first, second)?;
+    }
     let pair = match (&second, dump) {
         (Some(second), _) => Some(Pair::of_runs(&first, second)),
         (None, Some(file)) => Some(beside_dump(&first, &file, words)?),
@@ -84,6 +87,17 @@ pub fn record(words: &mut Words, out: &mut dyn Write) -> Result<(), Fault> {
     }
 }
 
+/// Runs with keys of other lengths have other rounds, so that their states do not stand side by side.
+fn of_one_length(first: &Run, second: &Run) -> Result<(), Fault> {
+    let [expected, found] = [first, second].map(|run| run.rounds().key_bytes());
+    match found == expected {
+        true => Ok(()),
+        false => Err(Fault::caller(format!(
+            "--key2: {found} bytes, and {expected} are expected: two runs stand side by side where their keys are equally long"
+        ))),
+    }
+}
+
 /// The run and the dump in a file, or on standard input.
 fn beside_dump(run: &Run, file: &OsStr, words: &mut Words) -> Result<Pair, Fault> {
     let mut opened;
@@ -93,7 +107,7 @@ fn beside_dump(run: &Run, file: &OsStr, words: &mut Words) -> Result<Pair, Fault
         opened = words.open(file)?;
         &mut opened
     };
-    let states = dump::read(input, run.direction)?;
+    let states = dump::read(input, run.direction, run.rounds())?;
     Ok(Pair::with_dump(run, &input.name, states))
 }
 

@@ -17,7 +17,7 @@ const LETTER: usize = 7;
 
 /// What stands over a picture: its title, and lines under it.
 struct Head {
-    title: &'static str,
+    title: String,
     lines: Vec<String>,
 }
 
@@ -48,15 +48,15 @@ impl Head {
              <rect width=\"{width}\" height=\"{height}\" fill=\"#ffffff\"/>\n",
             escaped(&self.told())
         );
-        text(&mut svg, "title", MARGIN, TITLE, self.title);
+        text(&mut svg, "title", MARGIN, TITLE, &self.title);
         lines(&mut svg, TITLE + 4 + LINE, &self.lines);
         svg
     }
 
     /// The title and the lines, a sentence for each.
     fn told(&self) -> String {
-        let lines = std::iter::once(self.title).chain(self.lines.iter().map(String::as_str));
-        lines.map(sentence).collect::<Vec<_>>().join(" ")
+        let lines = std::iter::once(&self.title).chain(&self.lines);
+        lines.map(|line| sentence(line)).collect::<Vec<_>>().join(" ")
     }
 }
 

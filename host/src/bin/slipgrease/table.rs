@@ -2,7 +2,7 @@
 
 use crate::hex::digits;
 use crate::record::{sentences, Kind, Pair, Run};
-use slipgrease::{Direction, Point};
+use slipgrease::Point;
 
 /// One run, or two sides and what their comparison comes to.
 pub fn table(run: &Run, pair: Option<&Pair>) -> String {
@@ -17,21 +17,22 @@ fn state(states: &[u8], point: Point) -> &[u8] {
     &states[16 * point.number()..][..16]
 }
 
-fn rows(direction: Direction, heading: String, row: impl Fn(Point) -> String) -> String {
-    let width = direction.points().map(|point| point.to_string().len()).max().unwrap_or(0);
+fn rows(points: impl Iterator<Item = Point>, heading: String, row: impl Fn(Point) -> String) -> String {
+    let points: Vec<Point> = points.collect();
+    let width = points.iter().map(|point| point.to_string().len()).max().unwrap_or(0);
     let line = |point: Point| format!("{:>2}  {point:<width$}  {}\n", point.number(), row(point));
-    format!("{:>2}  {:<width$}  {heading}\n{}", "n", "after", direction.points().map(line).collect::<String>())
+    format!("{:>2}  {:<width$}  {heading}\n{}", "n", "after", points.into_iter().map(line).collect::<String>())
 }
 
 fn plain(run: &Run) -> String {
-    rows(run.direction, "state".to_string(), |point| digits(state(&run.recorded.states, point)))
+    rows(run.points(), "state".to_string(), |point| digits(state(&run.recorded.states, point)))
 }
 
 /// The plain state, its mask, the covered state, and the mask's name.
 fn covered(run: &Run) -> String {
     let (recorded, masks) = (&run.recorded, run.recorded.masks());
     let heading = format!("{:<32}  {:<32}  {:<32}  mask's name", "plain state", "mask", "covered state");
-    let table = rows(run.direction, heading, |point| {
+    let table = rows(run.points(), heading, |point| {
         let [plain, mask, covered] = [&recorded.plain, &masks, &recorded.states].map(|states| digits(state(states, point)));
         format!("{plain}  {mask}  {covered}  {}", recorded.covers[point.number()].name())
     });
@@ -45,7 +46,7 @@ fn side_by_side(pair: &Pair) -> String {
     let counted = if pair.masked { "under  masks  covered by" } else { "bytes" };
     let what = if pair.masked { "what differs under the masks" } else { "what differs (xor)" };
     let under = pair.under();
-    let table = rows(pair.direction, format!("{first:<32}  {second:<32}  {what:<32}  {counted}"), |point| {
+    let table = rows(pair.points(), format!("{first:<32}  {second:<32}  {what:<32}  {counted}"), |point| {
         let [a, b] = [0, 1].map(|side| digits(state(&pair.sides[side].states, point)));
         let marked: String = (16 * point.number()..16 * point.number() + 16)
             .map(|byte| match pair.kind(byte) {

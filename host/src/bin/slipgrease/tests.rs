@@ -10,6 +10,7 @@ mod offsets;
 mod random;
 mod record;
 mod report;
+mod shorter;
 mod steps;
 mod stored;
 mod stream;
@@ -65,13 +66,14 @@ fn piped(line: &str, input: &str) -> String {
 }
 
 /// An example whose last line is three dots is printed so far, and any other in full. The file of vectors has C.3 alone, the key is
-/// that of C.3 and NIST's that of SP 800-38A, and the partner's is wrapped as in RFC 3394, 4.6. What one example writes to a file the
-/// next one reads.
+/// that of C.3, the one of 16 bytes that of C.1 and NIST's that of SP 800-38A, and the partner's is wrapped as in RFC 3394, 4.6. What
+/// one example writes to a file the next one reads.
 #[test]
 fn the_examples_of_the_help_print_what_they_show() {
     let folder = Folder::new("example");
     folder.file("vectors.txt", format!("{KEY} {BLOCK} {CIPHERTEXT}\n"));
     folder.file("key.txt", format!("{KEY}\n"));
+    folder.file("key16.txt", format!("{}\n", &KEY[..32]));
     folder.file("nist.txt", format!("{NIST_KEY}\n"));
     folder.file("partner.txt", wrap::PARTNER_FILE);
     folder.file("ECBGFSbox256.rsp", vectors::gfsbox());
@@ -153,10 +155,10 @@ fn refusals_say_what_was_wrong() {
     let short = &KEY[2..];
     let sheet = "4d534b0001";
     let cases = [
-        (format!("expand {short}"), "key, argument 1: 31 bytes: the key is not 32 bytes long (reply 1, KEY_LENGTH)", 1),
+        (format!("expand {short}"), "key, argument 1: 31 bytes: the key is not 16, 24 or 32 bytes long (reply 1, KEY_LENGTH)", 1),
         (
             format!("encrypt --schedule {KEY} {BLOCK}"),
-            "schedule, option --schedule: 32 bytes: the schedule is not 240 bytes long (reply 2, SCHEDULE_LENGTH)",
+            "schedule, option --schedule: 32 bytes: a schedule is 176, 208 or 240 bytes (reply 2, SCHEDULE_LENGTH)",
             1,
         ),
         (format!("decrypt {KEY} {KEY}"), "block, argument 2: 32 bytes: a block is 16 bytes (reply 3, INPUT_LENGTH)", 1),

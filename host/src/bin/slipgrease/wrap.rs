@@ -57,6 +57,11 @@ impl Asked {
 
     fn refused(&self, refusal: Refusal) -> Fault {
         match (refusal, &self.offset) {
+            // The library wraps under 32 bytes alone.
+            (Refusal::ScheduleLength, _) => {
+                let said = "a wrapping key is 32 bytes, and its schedule 240";
+                Fault::refused_as(refusal, &self.keyed.given.seen(), said)
+            }
             (Refusal::OffsetRange, Some(offset)) => offset.refused(refusal),
             (Refusal::KeyDataLength, _) => self.given.refused(refusal),
             _ => explained(refusal, &self.keyed, &self.given, None),

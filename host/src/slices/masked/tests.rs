@@ -1,6 +1,7 @@
-//! What the masked calls over one block refuse, and in which order.
+//! What the calls with a schedule refuse, and the masked ones over one block in which order.
 
 use super::*;
+use crate::{decrypt, encrypt, expand_key, record_plain};
 use Refusal::*;
 
 const OFFSETS: [u8; 16] = [7, 7, 0, 3, 12, 15, 15, 1, 0, 9, 4, 4, 4, 10, 2, 8];
@@ -36,10 +37,17 @@ struct Lent {
     states: [Vec<u8>; 2],
 }
 
+/// How long a schedule is, the record of an encryption with it, and that of a decryption.
+const LENGTHS: [[usize; 3]; 3] = [[176, 816, 976], [208, 976, 1168], [240, 1136, 1360]];
+
 impl Lent {
     fn right() -> Lent {
-        let [schedule, input, masks] = [240, 16, 16].map(|length| vec![3; length]);
-        let [output, forth, back] = [16, 1136, 1360].map(|length| vec![0x55; length]);
+        Lent::of(LENGTHS[2])
+    }
+
+    fn of([schedule, forth, back]: [usize; 3]) -> Lent {
+        let [schedule, input, masks] = [schedule, 16, 16].map(|length| vec![3; length]);
+        let [output, forth, back] = [16, forth, back].map(|length| vec![0x55; length]);
         Lent { schedule, input, masks, offsets: OFFSETS.into(), step: 4, form: 0, output, states: [forth, back] }
     }
 
@@ -94,9 +102,9 @@ const CALLS: [(Call, &[Refusal]); 6] = [
 /// Whatever set of causes there is, the first of them is told, and nothing is written.
 #[test]
 fn calls_are_refused_in_their_order() {
-    for (call, refusals) in CALLS {
+    for ((call, refusals), lengths) in CALLS.into_iter().flat_map(|call| LENGTHS.map(|lengths| (call, lengths))) {
         for (set, too_much) in (0..1 << refusals.len()).flat_map(|set| [(set, false), (set, true)]) {
-            let mut lent = Lent::right();
+            let mut lent = Lent::of(lengths);
             let causes: Vec<Refusal> = (0..refusals.len()).filter(|i| set >> i & 1 == 1).map(|i| refusals[i]).collect();
             causes.iter().for_each(|cause| lent.spoil(*cause, too_much));
             assert_eq!(call(&mut lent), causes.first().map_or(Ok(()), |first| Err(*first)), "{causes:?}");
@@ -133,12 +141,37 @@ fn steps_1_and_4_to_15_are_taken() {
     }
 }
 
-/// The record of an encryption is too short for a decryption, and the other way about.
+/// The record of an encryption is too short for a decryption with the same schedule, and may be right for one with another.
 #[test]
-fn each_direction_has_its_own_record() {
-    for (length, encryption, decryption) in [(1136, Ok(()), Err(RecordLength)), (1360, Err(RecordLength), Ok(()))] {
-        let mut states = vec![0; length];
-        assert_eq!(record_masked(&[3; 240], &[5; 16], &[7; 16], &OFFSETS, 5, &mut states), encryption);
-        assert_eq!(record_masked_decryption(&[3; 240], &[5; 16], &[7; 16], &OFFSETS, 5, &mut states), decryption);
+fn each_schedule_and_direction_has_its_own_record() {
+    for ([schedule, forth, back], length) in
+        LENGTHS.into_iter().flat_map(|lengths| (0..1400).map(move |length| (lengths, length)))
+    {
+        let (schedule, mut states) = (vec![3; schedule], vec![0; length]);
+        let expected = |right| if length == right { Ok(()) } else { Err(RecordLength) };
+        assert_eq!(record_plain(&schedule, &[5; 16], &mut states), expected(forth));
+        assert_eq!(record_masked(&schedule, &[5; 16], &[7; 16], &OFFSETS, 5, &mut states), expected(forth));
+        assert_eq!(record_masked_decryption(&schedule, &[5; 16], &[7; 16], &OFFSETS, 5, &mut states), expected(back));
+    }
+}
+
+/// Every length of a schedule, alone and with many blocks.
+#[test]
+fn schedules_of_three_lengths_are_taken() {
+    for length in 0..300 {
+        let (schedule, mut output) = (vec![3; length], [0; 32]);
+        let expected = if [176, 208, 240].contains(&length) { Ok(()) } else { Err(ScheduleLength) };
+        assert_eq!(encrypt(&schedule, &[5; 16], &mut output[..16]), expected, "{length}");
+        assert_eq!(decrypt(&schedule, &[5; 16], &mut output[..16]), expected, "{length}");
+        assert_eq!(encrypt_blocks(&schedule, &[5; 32], &mut output, &[0, 15], 5, 0), expected, "{length}");
+        let keys = [(16, 176), (24, 208), (32, 240)];
+        for key in 0..40 {
+            let expected = match keys.iter().find(|(its, _)| *its == key) {
+                None => Err(KeyLength),
+                Some((_, right)) if *right != length => Err(ScheduleLength),
+                Some(_) => Ok(()),
+            };
+            assert_eq!(expand_key(&vec![7; key], &mut vec![0; length]), expected, "{key} and {length}");
+        }
     }
 }

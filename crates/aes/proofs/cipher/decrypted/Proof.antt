@@ -12,10 +12,10 @@ use Rattle.aes.proofs.cipher.decrypted.Statement.{statement}
 use Rattle.aes.proofs.cipher.decrypted.Tie as tie
 
 abbrev Inv-loop : tie.InvT-loop
-Inv-loop w inv-sbox s₀ r₀ s r = (r ≤ 13) × (invRounds w s r ≡ invRounds w s₀ 13)
+Inv-loop w n inv-sbox s₀ r₀ s r = (r ≤ n - 1) × (invRounds w s r ≡ invRounds w s₀ (n - 1))
 
 abbrev μ-loop : tie.MeasureT-loop
-μ-loop w inv-sbox s₀ r₀ s r = r
+μ-loop w n inv-sbox s₀ r₀ s r = r
 
 loop-again : tie.Need-loop-again Inv-loop μ-loop
 loop-again c =
@@ -36,7 +36,7 @@ returns c =
     let a = first .before .before .before .before .args in
     let e : l .r ≡ 0 = omega arith in
     let begun = first .add .ensures ∙ ap (addRoundKey (a .input)) (first .before .round-key .ensures) in
-    let done = sym (inv-rounds-none (a .w .now) (l .s)) ∙ ap (invRounds (a .w .now) (l .s)) (sym e) ∙ l .inv .1 ∙ ap (λ (s : List ℕ). invRounds (a .w .now) s 13) begun in
+    let done = sym (inv-rounds-none (a .w .now) (l .s)) ∙ ap (invRounds (a .w .now) (l .s)) (sym e) ∙ l .inv .1 ∙ ap (λ (s : List ℕ). invRounds (a .w .now) s (a .n - 1)) begun in
     let shifted = sub .inv-shift-sub .ensures ∙ ap (λ (s : List ℕ). invSubBytes (invShiftRows s)) done in
     c .add2 .ensures ∙ λ i. addRoundKey (shifted i) (key .round-key2 .ensures i)
 
@@ -44,5 +44,5 @@ pub decrypted-spec : {M : Type 1} → statement M
 decrypted-spec =
     tie.close
     (tie.spec Inv-loop μ-loop (λ c κs. search needs) (λ c κs. search needs) (λ c κs. search needs)
-    (λ c. (search needs, refl)) (λ c κs. search needs) (λ c. search needs) (λ c. search needs) loop-again (λ c κs. search needs) (λ c κs. search needs)
+    (λ c. search needs) (λ c. (search needs, refl)) (λ c κs. search needs) (λ c. search needs) (λ c. search needs) loop-again (λ c κs. search needs) (λ c κs. search needs)
     (λ c κs. search needs) returns)

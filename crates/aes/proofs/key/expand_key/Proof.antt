@@ -1,29 +1,33 @@
--- The checks in their order, then the schedule.
+-- Which key it is, and the rest for its number of words.
 -- Assumes nothing.
-use mathlib.Core.List.{List}
-use mathlib.Core.Path.{ap, _∙_}
-use Prim.Native.Nat.{ℕ}
+use mathlib.Core.Path.{ap}
 use borrow.Author.Needs.{needs}
-use borrow.Author.Tests.{eq-eqb, ne-eqb}
+use borrow.Author.Tests.{ne-eqb}
 use lib.ListN.{length}
+use Rattle.aes.specs.Reply.{keyed}
 use Rattle.aes.proofs.key.expand_key.Statement.{statement}
 use Rattle.aes.proofs.key.expand_key.Tie as tie
 
-returns : tie.Need-returns
-returns c = simp (ne-eqb (length (c .before .before .before .args .key .now)) 32 (search needs))
+four : tie.Need-returns
+four c =
+    let made = c .before .before in
+    simp (ap keyed (made .before .before .match .keys1)) (made .by-words .ensures)
 
-returns-2 : tie.Need-returns-2
-returns-2 c =
-    let a = c .before .before .before .before .args in
-    simp (eq-eqb (length (a .key .now)) 32 (search needs), ne-eqb (length (a .schedule .now)) 240 (search needs))
+six : tie.Need-returns-2
+six c =
+    let made = c .before .before in
+    simp (ap keyed (made .before .before .match .keys2)) (made .by-words2 .ensures)
 
-returns-3 : tie.Need-returns-3
-returns-3 c =
-    let copy = c .before .before in
-    let expanded = copy .before .before .before in
-    let a = expanded .before .before .before .before .before .args in
-    simp (eq-eqb (length (a .key .now)) 32 (search needs), eq-eqb (length (a .schedule .now)) 240 (search needs))
-    (ap (λ (l : List ℕ). (0, l)) (copy .copy .ensures ∙ expanded .expanded .ensures))
+eight : tie.Need-returns-3
+eight c =
+    let made = c .before .before in
+    simp (ap keyed (made .before .before .match .keys3)) (made .by-words3 .ensures)
+
+none : tie.Need-returns-4
+none c =
+    let n = length (c .before .before .before .args .key .now) in
+    let others = c .match .rest in
+    simp (ne-eqb n 16 (others .0 .0 .1), ne-eqb n 24 (others .0 .1), ne-eqb n 32 (others .1))
 
 pub expand-key-spec : {M : Type 1} → statement M
-expand-key-spec = tie.close (tie.spec returns returns-2 (λ c κs. search needs) (λ c. search needs) (λ c κs. search needs) (λ c. search needs) returns-3)
+expand-key-spec = tie.close (tie.spec (λ c κs. search needs) (λ c κs. search needs) (λ c κs. search needs) (λ c. search needs) four (λ c. search needs) six (λ c. search needs) eight none)

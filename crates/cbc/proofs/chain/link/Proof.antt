@@ -1,15 +1,15 @@
 -- What the calls write of sixteen bytes under 240.
 -- Assumes nothing.
-use mathlib.Core.Path.{ap, _∙_}
+use mathlib.Core.Path.{refl, ap, _∙_}
 use mathlib.Core.List.{List}
 use Prim.Native.Nat.{ℕ}
 use borrow.Author.Needs.{needs}
 use lib.ListN.{length}
-use Rattle.aes.specs.Cipher.{cipher}
-use Rattle.aes.specs.State.{Bytes, addRoundKey}
+use Rattle.aes.specs.Cipher.{cipher, invCipher}
+use Rattle.aes.specs.State.{state, Bytes, addRoundKey}
+use Rattle.aes.proofs.Schedule.{full-done}
 use Rattle.aes.proofs.Given.{array-bytes}
 use Rattle.masks.specs.Mask.{_⊞_}
-use Rattle.cbc.proofs.Links.{block-done}
 use Rattle.cbc.proofs.chain.link.Statement.{statement}
 use Rattle.cbc.proofs.chain.link.Tie as tie
 
@@ -20,7 +20,7 @@ returns c =
     let start = way .before .before in
     let a = start .args in
     let b : Bytes 16 (a .t3) = array-bytes (start .good .1 .1 .0) in
-    rw (way .if1 .taken) (c .add .ensures ∙ ap (λ (r : List ℕ). r ⊞ a .last) (block-done (a .schedule .now) (a .t3) (start .pre) (b .size) (coded .decrypt .ensures)))
+    rw (way .if1 .taken) (c .add .ensures ∙ ap (λ (r : List ℕ). r ⊞ a .last) (full-done (λ n. invCipher n (a .schedule .now) (a .t3)) (a .schedule .now) (a .t3) (state (λ i. 0)) (start .pre) (b .size) refl (coded .decrypt .ensures)))
 
 returns-2 : tie.Need-returns-2
 unfolding addRoundKey
@@ -29,7 +29,7 @@ returns-2 c =
     let way = summed .before in
     let start = way .before .before in
     let a = start .args in
-    rw (way .if1 .left) (block-done (a .schedule .now) (summed .add2 .result) (start .pre) (ap length (summed .add2 .ensures)) (c .before .encrypt .ensures) ∙ ap (cipher 14 (a .schedule .now)) (summed .add2 .ensures))
+    rw (way .if1 .left) (full-done (λ n. cipher n (a .schedule .now) (summed .add2 .result)) (a .schedule .now) (summed .add2 .result) (state (λ i. 0)) (start .pre) (ap length (summed .add2 .ensures)) refl (c .before .encrypt .ensures) ∙ ap (cipher 14 (a .schedule .now)) (summed .add2 .ensures))
 
 pub link-spec : {M : Type 1} → statement M
 link-spec =

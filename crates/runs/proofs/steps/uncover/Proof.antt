@@ -14,7 +14,7 @@ returns c =
     let kept = c .before .before in
     let add = kept .before .before in
     let ended = add .before in
-    let a = ended .before .before .before .before .args in
+    let a = ended .before .before .before .before .before .args in
     let constant = ended .shift-rows .ensures ∙ ap shiftRows (ended .before .mask .ensures) in
     kept .keep .ensures .1 ∙ kept .keep .ensures .0 ∙ add .add .ensures ∙ ap (λ (k : List ℕ). a .s .bytes ⊞ k) constant
 

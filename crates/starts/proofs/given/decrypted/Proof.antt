@@ -5,6 +5,7 @@ use mathlib.Core.Path.{refl, _∙_}
 use Prim.Native.Nat.{ℕ}
 use borrow.Author.Needs.{needs}
 use Rattle.runs.specs.Back.{maskedInvCipher}
+use Rattle.aes.specs.Key.{roundsOf}
 use Rattle.lent.proofs.Begun.{started, run-told}
 use Rattle.starts.proofs.given.decrypted.Statement.{statement}
 use Rattle.starts.proofs.given.decrypted.Tie as tie
@@ -25,7 +26,7 @@ returns c =
     let run = c .before .before in
     let masks = run .before .before .before .before .before .before .before .before .before .before .before .before .before .before in
     let a = masks .before .before .before .before .before .args in
-    run .decrypted-over .ensures ∙ run-told _ (a .start) (a .masks .now) (a .step) (masks .lent .ensures) (λ (M v : List ℕ) (d : ℕ). maskedInvCipher 14 M v d (a .schedule .now) (a .input .now)) refl
+    run .decrypted-over .ensures ∙ run-told _ (a .start) (a .masks .now) (a .step) (masks .lent .ensures) (λ (M v : List ℕ) (d : ℕ). maskedInvCipher (roundsOf (a .schedule .now)) M v d (a .schedule .now) (a .input .now)) refl
 
 pub decrypted-spec : {M : Type 1} → statement M
 decrypted-spec = tie.close (tie.spec (λ c κs. search needs) (λ c κs. search needs) (λ c κs. search needs) (λ c κs. search needs) (λ c κs. search needs) lent (λ c. search needs) returns)

@@ -5,6 +5,7 @@ use mathlib.Core.Path.{refl, _∙_}
 use Prim.Native.Nat.{ℕ}
 use borrow.Author.Needs.{needs}
 use Rattle.runs.specs.Run.{maskedCipher}
+use Rattle.aes.specs.Key.{roundsOf}
 use Rattle.lent.proofs.Begun.{started, run-told}
 use Rattle.starts.proofs.given.encrypted.Statement.{statement}
 use Rattle.starts.proofs.given.encrypted.Tie as tie
@@ -24,7 +25,7 @@ returns c =
     let run = c .before .before in
     let masks = run .before .before .before .before .before .before .before .before .before .before .before in
     let a = masks .before .before .before .before .before .args in
-    run .encrypted-over .ensures ∙ run-told _ (a .start) (a .masks .now) (a .step) (masks .lent .ensures) (λ (M v : List ℕ) (d : ℕ). maskedCipher 14 M v d (a .schedule .now) (a .input .now)) refl
+    run .encrypted-over .ensures ∙ run-told _ (a .start) (a .masks .now) (a .step) (masks .lent .ensures) (λ (M v : List ℕ) (d : ℕ). maskedCipher (roundsOf (a .schedule .now)) M v d (a .schedule .now) (a .input .now)) refl
 
 pub encrypted-spec : {M : Type 1} → statement M
 encrypted-spec = tie.close (tie.spec (λ c κs. search needs) (λ c κs. search needs) (λ c κs. search needs) (λ c κs. search needs) lent (λ c. search needs) returns)

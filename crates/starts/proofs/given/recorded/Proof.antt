@@ -6,6 +6,7 @@ use Prim.Native.Nat.{ℕ}
 use borrow.Author.Needs.{needs}
 use Rattle.aes.specs.Record.{bytes}
 use Rattle.runs.specs.Run.{maskedRecord}
+use Rattle.aes.specs.Key.{roundsOf}
 use Rattle.lent.proofs.Begun.{started, run-told}
 use Rattle.starts.proofs.given.recorded.Statement.{statement}
 use Rattle.starts.proofs.given.recorded.Tie as tie
@@ -25,7 +26,7 @@ returns c =
     let run = c .before .before in
     let masks = run .before .before .before .before .before .before .before .before .before .before .before in
     let a = masks .before .before .before .before .before .args in
-    run .recorded-over .ensures ∙ run-told _ (a .start) (a .masks .now) (a .step) (masks .lent .ensures) (λ (M v : List ℕ) (d : ℕ). bytes (maskedRecord 14 M v d (a .schedule .now) (a .input .now))) refl
+    run .recorded-over .ensures ∙ run-told _ (a .start) (a .masks .now) (a .step) (masks .lent .ensures) (λ (M v : List ℕ) (d : ℕ). bytes (maskedRecord (roundsOf (a .schedule .now)) M v d (a .schedule .now) (a .input .now))) refl
 
 pub recorded-spec : {M : Type 1} → statement M
 recorded-spec = tie.close (tie.spec (λ c κs. search needs) (λ c κs. search needs) (λ c κs. search needs) (λ c κs. search needs) lent (λ c. search needs) returns)

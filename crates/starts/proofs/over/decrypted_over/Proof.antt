@@ -1,11 +1,12 @@
 -- The run over what the start left as it is, or what was worked out for it.
 -- Assumes nothing.
 use mathlib.Core.List.{List}
-use mathlib.Core.Path.{_∙_}
+use mathlib.Core.Path.{ap, _∙_}
 use Prim.Native.Nat.{ℕ}
 use borrow.Author.Needs.{needs}
-use lib.Dec.{lit<}
 use Rattle.runs.specs.Back.{maskedInvCipher}
+use Rattle.aes.proofs.Schedule.{known}
+use Rattle.lent.specs.Started.{recordOf}
 use Rattle.lent.proofs.Begun.{sound, as-told}
 use Rattle.starts.proofs.over.decrypted_over.Statement.{statement}
 use Rattle.starts.proofs.over.decrypted_over.Tie as tie
@@ -27,19 +28,24 @@ made-lent c κs =
 lent : tie.Need-opened-requires
 lent c κs =
     let first = c .before in
-    let made = first .before .before .before .before .before .before in
+    let counted = first .before .before .before .before .before in
+    let made = counted .before .before in
     let laid = made .before .before .before .before in
     let start = laid .before .before .before .before .before .before .before in
-    (lit< tt, lit< tt, start .pre .0, start .pre .5, made .corrected .ensures .0, made .corrected .ensures .1, start .pre .2, rw (first .first .ensures) (start .pre .3 .0), laid .laid .ensures .0, laid .laid .ensures .1)
+    let n = known (start .args .schedule .now) (counted .rounds-for .result) (counted .rounds-for .ensures .0) (start .pre .0) in
+    (n .fits .0, n .fits .1, n .fits .2, start .pre .5, made .corrected .ensures .0, made .corrected .ensures .1, start .pre .2, rw (first .first .ensures) (start .pre .3 .0), laid .laid .ensures .0, laid .laid .ensures .1)
 
 returns : tie.Need-returns
 returns c =
     let run = c .before .before in
     let first = run .before .before in
-    let block = first .before .before .before .before .before in
+    let counted = first .before .before .before .before .before in
+    let block = counted .before in
     let start = block .before .before .before .before .before .before .before .before .before .before .before .before in
     let a = start .args in
-    run .opened .ensures ∙ as-told (a .masks) (a .start) (start .pre .4) (λ (v b : List ℕ). maskedInvCipher 14 (a .masks .0) v (a .masks .1) (a .schedule .now) b) (first .first .ensures) (block .lent .ensures)
+    let n = known (a .schedule .now) (counted .rounds-for .result) (counted .rounds-for .ensures .0) (start .pre .0) in
+    run .opened .ensures ∙ as-told (a .masks) (a .start) (start .pre .4) (λ (v b : List ℕ). maskedInvCipher (counted .rounds-for .result) (a .masks .0) v (a .masks .1) (a .schedule .now) b) (first .first .ensures) (block .lent .ensures)
+    ∙ ap (λ (k : ℕ). maskedInvCipher k (a .masks .0) (recordOf (a .start)) (a .masks .1) (a .schedule .now) (a .input .now)) (n .same)
 
 pub decrypted-over-spec : {M : Type 1} → statement M
-decrypted-over-spec = tie.close (tie.spec (λ c κs. search needs) laid-lent made-lent (λ c κs. search needs) (λ c κs. search needs) lent (λ c. search needs) returns)
+decrypted-over-spec = tie.close (tie.spec (λ c κs. search needs) laid-lent made-lent (λ c κs. search needs) (λ c κs. search needs) (λ c κs. search needs) lent (λ c. search needs) returns)

@@ -7,6 +7,7 @@ use borrow.Author.Needs.{needs}
 use Rattle.aes.specs.Box.{sBox}
 use Rattle.masks.specs.Mask.{published, one, coversOf, maskedBoxes, compensation, constants}
 use Rattle.runs.specs.Run.{maskedCipher}
+use Rattle.aes.specs.Key.{roundsOf}
 use Rattle.lent.proofs.Begun.{started, run-told}
 use Rattle.starts.proofs.published.sealed.Statement.{statement}
 use Rattle.starts.proofs.published.sealed.Tie as tie
@@ -41,7 +42,7 @@ returns c =
     let run = c .before .before in
     let masks = run .before .before .before .before .before .before .before .before .before .before in
     let a = masks .before .before .before .before .args in
-    run .encrypted-over .ensures ∙ run-told _ (a .start) published (a .step) (masks .published .ensures) (λ (M v : List ℕ) (d : ℕ). maskedCipher 14 M v d (a .schedule .now) (a .input .now)) refl
+    run .encrypted-over .ensures ∙ run-told _ (a .start) published (a .step) (masks .published .ensures) (λ (M v : List ℕ) (d : ℕ). maskedCipher (roundsOf (a .schedule .now)) M v d (a .schedule .now) (a .input .now)) refl
 
 pub sealed-spec : {M : Type 1} → statement M
 sealed-spec = tie.close (tie.spec (λ c κs. search needs) (λ c κs. search needs) stepped-lent (λ c κs. search needs) (λ c κs. search needs) lent (λ c. search needs) returns)

@@ -7,6 +7,7 @@ use borrow.Author.Needs.{needs}
 use Rattle.aes.specs.Box.{invSBox}
 use Rattle.masks.specs.Mask.{published, one, coversOf, maskedBoxes, afterRows, afterColumns, constants}
 use Rattle.runs.specs.Back.{maskedInvCipher}
+use Rattle.aes.specs.Key.{roundsOf}
 use Rattle.lent.proofs.Begun.{started, run-told}
 use Rattle.starts.proofs.published.unsealed.Statement.{statement}
 use Rattle.starts.proofs.published.unsealed.Tie as tie
@@ -43,7 +44,7 @@ returns c =
     let run = c .before .before in
     let masks = run .before .before .before .before .before .before .before .before .before .before .before .before in
     let a = masks .before .before .before .before .args in
-    run .decrypted-over .ensures ∙ run-told _ (a .start) published (a .step) (masks .published .ensures) (λ (M v : List ℕ) (d : ℕ). maskedInvCipher 14 M v d (a .schedule .now) (a .input .now)) refl
+    run .decrypted-over .ensures ∙ run-told _ (a .start) published (a .step) (masks .published .ensures) (λ (M v : List ℕ) (d : ℕ). maskedInvCipher (roundsOf (a .schedule .now)) M v d (a .schedule .now) (a .input .now)) refl
 
 pub unsealed-spec : {M : Type 1} → statement M
 unsealed-spec = tie.close (tie.spec (λ c κs. search needs) (λ c κs. search needs) stepped-lent (λ c κs. search needs) (λ c κs. search needs) (λ c κs. search needs) lent (λ c. search needs) returns)

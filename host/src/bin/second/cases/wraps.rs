@@ -17,7 +17,7 @@ pub fn pair(
 ) -> (Vec<u8>, Vec<u8>) {
     let length = length(random, wants(Cause::KeyData));
     let key_data = content(random, length);
-    let lengths = [Cause::Schedule, Cause::KeyData, Cause::Wrapped];
+    let lengths = [Cause::FullSchedule, Cause::KeyData, Cause::Wrapped];
     let wrapped = if opens(order) && !lengths.into_iter().any(&wants) {
         let other = content(random, length);
         wrap(random, boxes, schedule, &other, wants(Cause::Integrity))

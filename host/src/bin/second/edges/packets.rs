@@ -143,7 +143,7 @@ impl Given {
 
 /// What can be wrong, in the order in which it is looked for.
 type Fault = (&'static str, u16, fn(&mut Given));
-const FAULTS: [Fault; 18] = [
+const FAULTS: [Fault; 20] = [
     ("packet of 187", 19, |g| g.packet.truncate(187)),
     ("packet of 189", 19, |g| g.packet.push(0)),
     ("no packet", 19, |g| g.packet.clear()),
@@ -153,6 +153,8 @@ const FAULTS: [Fault; 18] = [
     ("sync 46", 20, |g| g.packet[0] = 0x46),
     ("list of 3485", 22, |g| g.list.truncate(3485)),
     ("list of 3487", 22, |g| g.list.push(0)),
+    ("list with schedules of 176", 22, |g| g.list.truncate(7 * (2 + 2 * 176 + 16))),
+    ("list with schedules of 208", 22, |g| g.list.truncate(7 * (2 + 2 * 208 + 16))),
     ("no list", 22, |g| g.list.clear()),
     ("000f listed", 22, |g| g.put_pid(6, 0x000f)),
     ("1fff listed", 22, |g| g.put_pid(6, 0x1fff)),

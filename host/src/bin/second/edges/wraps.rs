@@ -97,6 +97,25 @@ pub fn refused() -> Vec<Edge> {
     edges
 }
 
+/// Those of shorter keys are taken by the runs, and not here.
+pub fn schedules() -> Vec<Edge> {
+    let (mut edges, mut written) = (Vec::new(), 0);
+    for length in [0, 16, 176, 208, 224, 239, 241, 256] {
+        let mut tried = |call: &str, run: &dyn Fn(&[u8], &mut [u8]) -> u8| {
+            let mut kept = [0x55; 24];
+            let name = format!("reply to a schedule of {length} bytes, {call}");
+            edges.push(edge(name, run(&vec![0; length], &mut kept), 2));
+            written += difference(&kept, &[0x55; 24]);
+        };
+        tried("wrap", &|w, to| calls::wrap(w, &[0; 16], to));
+        tried("wrap_masked", &|w, to| calls::wrap_masked(w, &[0; 16], to, 16));
+        tried("unwrap", &|w, to| calls::unwrap(w, &[0; 24], &mut to[..16]));
+        tried("unwrap_masked", &|w, to| calls::unwrap_masked(w, &[0; 24], &mut to[..16], 16));
+    }
+    edges.push(edge("bytes that are written then", written, 0));
+    edges
+}
+
 /// The key data of 4.6 under initial values that differ from a6 eight times in one bit, the last and the first, and under that of
 /// RFC 5649, all made by OpenSSL; and its wrapped key with the last bit changed.
 pub fn broken() -> Vec<Edge> {

@@ -74,7 +74,8 @@ pub const CALLS: &[Call] = &[
         refusals: &[Schedule, Blocks, Room, OffsetCount, AnyOffset, Step, Form],
         library: library_many,
         reference: |b, l| {
-            let blocks = each(l, |masking, block| masking.run(Encryption, b, l.schedule.lent(), block)[70]);
+            let run = |masking: &Masking, block: &State| masking.run(Encryption, b, l.schedule.lent(), block);
+            let blocks = each(l, |masking, block| *run(masking, block).last().expect("a run has states"));
             write(&mut l.output, &blocks)
         },
     },

@@ -10,7 +10,7 @@ pub const CALLS: &[Call] = &[
     Call {
         name: "expand_key",
         method: "KEYEXPANSION",
-        refusals: &[Key, Schedule],
+        refusals: &[Key, ScheduleOfKey],
         library: |l| number(calls::expand_key(l.key.lent(), l.schedule.lent_mut())),
         reference: |b, l| write(&mut l.schedule, &expand_key(b, l.key.lent())),
     },

@@ -1,38 +1,49 @@
 //! The commands in the order in which they are listed.
 
+use super::record::RECORD;
 use super::Help;
 
 pub(super) const HELPS: &[Help] = &[
     Help {
         name: "expand",
         usage: "expand (KEY | --key-file FILE)",
-        summary: "the fifteen round keys of a key",
-        text: "Prints the 240 bytes of the key schedule, a round key to a line.",
+        summary: "the round keys of a key",
+        text: "\
+Prints the key schedule, a round key to a line: eleven of a key of 16 bytes, thirteen of one of 24, and fifteen of one of 32.",
         example: "\
 $ slipgrease expand --key-file key.txt
 000102030405060708090a0b0c0d0e0f
 101112131415161718191a1b1c1d1e1f
 a573c29fa176c498a97fce93a572c09c
+...
+$ slipgrease expand --key-file key16.txt
+000102030405060708090a0b0c0d0e0f
+d6aa74fdd2af72fadaa678f1d6ab76fe
 ...",
     },
     Help {
         name: "encrypt",
         usage: "encrypt KEY BLOCK",
         summary: "a block encrypted by the rack's engine",
-        text: "Prints the ciphertext of one block. --key-file FILE or --schedule SCHEDULE, any 240 bytes, can stand for KEY.",
+        text: "\
+Prints the ciphertext of one block, by ten rounds with a key of 16 bytes, twelve with 24, and fourteen with 32. --key-file FILE or
+--schedule SCHEDULE, any 176, 208 or 240 bytes, can stand for KEY.",
         example: "\
 $ slipgrease encrypt --key-file key.txt 00112233445566778899aabbccddeeff
 8ea2b7ca516745bfeafc49904b496089
 $ slipgrease encrypt - 00112233445566778899aabbccddeeff <key.txt
 8ea2b7ca516745bfeafc49904b496089
 $ slipgrease expand - <key.txt | slipgrease encrypt --schedule - 00112233445566778899aabbccddeeff
-8ea2b7ca516745bfeafc49904b496089",
+8ea2b7ca516745bfeafc49904b496089
+$ slipgrease encrypt --key-file key16.txt 00112233445566778899aabbccddeeff
+69c4e0d86a7b0430d8cdb78070b4c55a",
     },
     Help {
         name: "decrypt",
         usage: "decrypt KEY BLOCK",
         summary: "a block decrypted by the rack's engine",
-        text: "Prints the plaintext of one block. --key-file FILE or --schedule SCHEDULE, any 240 bytes, can stand for KEY.",
+        text: "\
+Prints the plaintext of one block. --key-file FILE or --schedule SCHEDULE, any 176, 208 or 240 bytes, can stand for KEY.",
         example: "\
 $ slipgrease decrypt --key-file key.txt 8ea2b7ca516745bfeafc49904b496089
 00112233445566778899aabbccddeeff",
@@ -83,10 +94,10 @@ f3eed1bdb5d2a03c064b5a7e3db181f8
         usage: "wrap [--offset O] KEY DATA",
         summary: "key data wrapped under a wrapping key, by RFC 3394",
         text: "\
-Prints the wrapped key of key data, 16 to 256 bytes in a multiple of 8. It is 8 bytes longer. KEY is the wrapping key, which RFC
-3394 calls the key-encryption key, KEK. With an offset from 0 to 15 that the caller chooses the module's engine wraps, with the
-published masks and step 1, and without one the rack's; both give the same. The key data may be broken into several words, as
-arguments or on standard input. --key-file FILE or --schedule SCHEDULE can stand for KEY.",
+Prints the wrapped key of key data, 16 to 256 bytes in a multiple of 8. It is 8 bytes longer. KEY is the wrapping key, of 32 bytes,
+which RFC 3394 calls the key-encryption key, KEK. With an offset from 0 to 15 that the caller chooses the module's engine wraps,
+with the published masks and step 1, and without one the rack's; both give the same. The key data may be broken into several words,
+as arguments or on standard input. --key-file FILE or --schedule SCHEDULE can stand for KEY.",
         example: "\
 $ slipgrease wrap --key-file key.txt 00112233445566778899aabbccddeeff
 64e8c3f9ce0f5ba263e9777905818a2a93c8191e7d6e8ae7",
@@ -162,49 +173,14 @@ all             4            2            2            0            0           
         summary: "the standard block of one that an early module stored in form 1",
         text: "\
 Prints the standard ciphertext of a block that an early module stored in form 1, with the published masks and step 1: it takes off
-Mask(OFFSET+14), which is still on the block. OFFSET is that of the block's run, 0 to 15. Without arguments, or for -, each line of
-standard input has a stored block and its offset, what follows a # is left out, and the standard blocks are printed in their order,
-a block to a line, of up to 65,536 lines. If any line is wrong, no block is printed.",
+Mask(OFFSET+14), which is still on the block: early modules had keys of 32 bytes alone. OFFSET is that of the block's run, 0 to 15.
+Without arguments, or for -, each line of standard input has a stored block and its offset, what follows a # is left out, and the
+standard blocks are printed in their order, a block to a line, of up to 65,536 lines. If any line is wrong, no block is printed.",
         example: "\
 $ slipgrease convert 7e5db7c5675e16e38f96dc0ae8e5a640 0
 8ea2b7ca516745bfeafc49904b496089",
     },
-    Help {
-        name: "record",
-        usage: "record [--decrypt] [--offset O] [--step D] [--masks MASKS] [--against FILE] [--json] [--svg FILE] KEY BLOCK",
-        summary: "the states of a run, of two side by side, or beside a receiver's dump",
-        text: "\
-Prints the 71 states of an encryption, or with --decrypt the 85 of a decryption. Without an offset the run is plain. With one, or
-with sixteen as for mask, it is masked, and each state stands with the plain one, its mask and the mask's name. That tells the label
-of byte 0, as Mask(7), or with sixteen offsets o, how far all labels are on from these, as Mask(o+4). The step is 1 unless another
-is named, 4 to 15, and the masks are the published ones unless sixteen others are given. --key-file FILE or --schedule SCHEDULE can
-stand for KEY.
-
-Rounds are counted from 0, and begin with their key, round 0 with key 0; key 14 ends round 13. Those of a decryption begin behind
-key 14, with InvShiftRows, and have the keys from 13 down to 0.
-
-A record gives the key away, a masked one too: two states between which a round key is added differ in just that key. State 0 xor
-state 1 is round key 0, and state 5 xor state 6 round key 1; of a decryption states 0 and 1 give round key 14, and 4 and 5 round key
-13. Keep a record as you keep the key.
-
-A second run is put beside the first where --offset2 O, --step2 D, --masks2 MASKS, --key2 KEY or --block2 BLOCK is given; what it
-is not given it has from the first, and sixteen other offsets are called o2. --against FILE puts what a receiver has dumped beside
-the run: 1136 bytes, or 71 lines of 32 hex digits; of a decryption 1360 bytes or 85 lines; - is standard input. The xor of what is
-under the masks is printed where that differs, dashes where the two differ by their masks alone, and dots where they are equal; then
-how many bytes differ, the first of them, and the masks there: whether a dump is covered by a mask of another label than the one
-that is due. A dump whose first state is covered as at another offset, or as at offsets that are all equally far on from the run's,
-is read at these. The status is 3 if any byte differs.
-
---json prints the same as JSON. A run has \"offset\" there, or in place of it, where there are sixteen, the list \"offsets\". --svg FILE
-draws it, in a file with mode 600, for its owner alone; - is standard output.",
-        example: "\
-$ slipgrease record --key-file key.txt 00112233445566778899aabbccddeeff
- n  after            state
- 0  block            00112233445566778899aabbccddeeff
- 1  key 0            00102030405060708090a0b0c0d0e0f0
- 2  boxes 0          63cab7040953d051cd60e0e7ba70e18c
-...",
-    },
+    RECORD,
     Help {
         name: "pipe",
         usage: "pipe [--step D] [--json] KEY BLOCK",
@@ -277,9 +253,9 @@ row                       even     of  lowest  highest
         summary: "a file of test vectors, run and counted",
         text: "\
 Each line of the file has a key, a block and its ciphertext; what follows a # is left out. Or it is one of NIST's response files for
-AES-256 in mode ECB as they are published, with KEY =, PLAINTEXT = and CIPHERTEXT = under [ENCRYPT] and [DECRYPT]; a plaintext of
-many blocks is as many vectors, and where the file's head says MCT, 1,000 encryptions lie between a plaintext and its ciphertext.
-Without FILE, or for -, standard input is read.
+AES-128, AES-192 or AES-256 in mode ECB as they are published, with KEY =, PLAINTEXT = and CIPHERTEXT = under [ENCRYPT] and
+[DECRYPT]; a plaintext of many blocks is as many vectors, and where the file's head says MCT, 1,000 encryptions lie between a
+plaintext and its ciphertext. Without FILE, or for -, standard input is read.
 
 Each vector is encrypted and decrypted, by the rack's engine and with the published masks at all sixteen offsets. The step is 1
 unless another is named, 4 to 15. What differs is printed, and is a data fault. With --json the differences and the counts are

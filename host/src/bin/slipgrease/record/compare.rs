@@ -4,11 +4,12 @@ use crate::record::cover::{Cover, Start};
 use crate::record::dump::{self, Found};
 use crate::record::run::{xor, Recorded, Run};
 use crate::shown::listed;
-use slipgrease::{Direction, Point};
+use slipgrease::{Direction, Point, Rounds};
 
 pub struct Pair {
     pub direction: Direction,
-    pub title: &'static str,
+    pub rounds: Rounds,
+    pub title: String,
     /// What they are called, as first and second, and what they are.
     pub called: [&'static str; 2],
     pub named: [String; 2],
@@ -69,7 +70,8 @@ impl Pair {
         };
         Pair {
             direction: first.direction,
-            title: "Two runs of AES-256 side by side",
+            rounds: first.rounds(),
+            title: format!("Two runs of {} side by side", first.cipher()),
             called: ["first", "second"],
             named: [first.named(), second.named()],
             another: Some(told),
@@ -87,7 +89,8 @@ impl Pair {
         let Found { recorded, read_at, alone } = dump::found(run, states);
         Pair {
             direction: run.direction,
-            title: "A run of AES-256 beside a receiver's dump",
+            rounds: run.rounds(),
+            title: format!("A run of {} beside a receiver's dump", run.cipher()),
             called: ["run", "dump"],
             named: [run.named(), name.to_string()],
             another: None,
@@ -103,7 +106,7 @@ impl Pair {
     }
 
     pub fn points(&self) -> impl Iterator<Item = Point> {
-        self.direction.points()
+        self.direction.points(self.rounds)
     }
 
     /// Byte by byte, what is under the masks xored.
@@ -130,7 +133,7 @@ impl Pair {
     }
 
     pub fn bytes(&self) -> usize {
-        16 * self.direction.states()
+        16 * self.direction.states(self.rounds)
     }
 
     /// Of some bytes.

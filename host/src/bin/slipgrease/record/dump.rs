@@ -7,23 +7,23 @@ use crate::record::cover::{Cover, Start};
 use crate::record::run::{xor, Masked, Recorded, Run};
 use crate::shown::count;
 use crate::words::words_of;
-use slipgrease::{Direction, Masks, Offset, Offsets, Point, Schedule, Stage, Step};
+use slipgrease::{Direction, Masks, Offset, Offsets, Point, Rounds, Stage, Step};
 use std::io::Read;
 
 /// More than any dump has, with a word on every line.
 const LONGEST: usize = 1 << 16;
 
 /// The states in a file, sixteen bytes each: just so many bytes, or a line of hex digits for each state.
-pub fn read(input: &mut Input, direction: Direction) -> Result<Vec<u8>, Fault> {
+pub fn read(input: &mut Input, direction: Direction, rounds: Rounds) -> Result<Vec<u8>, Fault> {
     let mut bytes = Vec::new();
     let read = input.reader().take(LONGEST as u64 + 1).read_to_end(&mut bytes);
     read.map_err(|error| Fault::at(&input.name, error))?;
-    let (name, states) = (&input.name, direction.states());
+    let (name, states) = (&input.name, direction.states(rounds));
     if bytes.len() == 16 * states {
         return Ok(bytes);
     }
     let expected = format!("{} bytes or {states} lines of hex digits are expected", 16 * states);
-    let wrong = |found: String| Fault::caller(format!("{name}: {found}, and {expected}{}", other_way(direction, &bytes)));
+    let wrong = |found: String| Fault::caller(format!("{name}: {found}, and {expected}{}", other_run(direction, rounds, &bytes)));
     if bytes.len() > LONGEST {
         return Err(wrong(format!("more than {LONGEST} bytes")));
     }
@@ -44,17 +44,26 @@ pub fn read(input: &mut Input, direction: Direction) -> Result<Vec<u8>, Fault> {
     }
 }
 
-/// A word for who has dumped the other direction's run.
-fn other_way(direction: Direction, bytes: &[u8]) -> &'static str {
+/// A word for who has dumped the other direction's run, or one with a key of another length.
+fn other_run(direction: Direction, rounds: Rounds, bytes: &[u8]) -> String {
+    let lines = bytes.iter().filter(|&&byte| byte == b'\n').count();
+    let fits = |way: Direction, rounds: Rounds| [bytes.len(), 16 * lines].contains(&(16 * way.states(rounds)));
     let (other, said) = match direction {
         Direction::Encryption => (Direction::Decryption, "; a decryption's dump is compared with --decrypt"),
         Direction::Decryption => (Direction::Encryption, "; an encryption's dump is compared without --decrypt"),
     };
-    let lines = bytes.iter().filter(|&&byte| byte == b'\n').count();
-    if bytes.len() == 16 * other.states() || lines == other.states() {
-        said
-    } else {
-        ""
+    if fits(other, rounds) {
+        return said.to_string();
+    }
+    let named = |(way, rounds): (Direction, Rounds)| {
+        let a = if way == Direction::Encryption { "an" } else { "a" };
+        format!("of {a} {way} with a key of {} bytes", rounds.key_bytes())
+    };
+    let runs = [direction, other].into_iter().flat_map(|way| Rounds::all().map(move |its| (way, its)));
+    let fitting: Vec<String> = runs.filter(|&(way, its)| !fits(direction, rounds) && fits(way, its)).map(named).collect();
+    match fitting.is_empty() {
+        true => String::new(),
+        false => format!("; so long is the dump {}", fitting.join(", or ")),
     }
 }
 
@@ -115,8 +124,8 @@ impl Rules {
         let Masked { masks, start, step } = run.masked.unwrap_or(published);
         // From the run's own start on, so that of masks that are alike the nearest label is named.
         let starts: Vec<Start> = (0..16).map(|labels| start.on(labels)).collect();
-        let masks = starts.iter().map(|start| ruled(run.direction, &masks, start.reached(), step)).collect();
-        Rules { points: run.direction.points().collect(), step, starts, masks }
+        let masks = starts.iter().map(|start| ruled(run, &masks, start.reached(), step)).collect();
+        Rules { points: run.points().collect(), step, starts, masks }
     }
 
     fn cover(&self, here: usize, rule: usize) -> Cover {
@@ -145,12 +154,12 @@ impl Rules {
     }
 }
 
-/// The masks of a run at offsets, whatever it encrypts: what its states and those of a run under masks 00 differ in.
-fn ruled(direction: Direction, masks: &Masks, offsets: Offsets, step: Step) -> Vec<u8> {
-    let (any, block) = (Schedule::new([0; 240]), [0; 16]);
-    let record = |masks: &Masks| match direction {
-        Direction::Encryption => any.record_masked(&block, masks, offsets, step),
-        Direction::Decryption => any.record_masked_decryption(&block, masks, offsets, step),
+/// The masks of such a run at other offsets, whatever it encrypts: what its states and those of a run under masks 00 differ in.
+fn ruled(run: &Run, masks: &Masks, offsets: Offsets, step: Step) -> Vec<u8> {
+    let any_block = [0; 16];
+    let record = |masks: &Masks| match run.direction {
+        Direction::Encryption => run.schedule.record_masked(&any_block, masks, offsets, step),
+        Direction::Decryption => run.schedule.record_masked_decryption(&any_block, masks, offsets, step),
     };
     xor(record(masks).as_bytes(), record(&Masks::new([0; 16])).as_bytes())
 }

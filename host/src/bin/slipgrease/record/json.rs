@@ -4,7 +4,7 @@ use crate::hex::digits;
 use crate::json::string;
 use crate::record::compare::{Counts, Pair};
 use crate::record::run::{Masked, Recorded, Run};
-use slipgrease::{Direction, Point};
+use slipgrease::Point;
 
 /// `second` is there where two runs are compared, `dump` where a run is compared with one, and `difference` with either. A run has
 /// `offset`, or `offsets` in place of it where it has sixteen that no one offset stands for.
@@ -16,7 +16,7 @@ pub fn record(first: &Run, second: Option<&Run>, pair: Option<&Pair>) -> String 
     }
     if let Some(pair) = pair {
         if second.is_none() {
-            parts.push(("dump", object(vec![("states", states(pair.direction, &pair.sides[1]))])));
+            parts.push(("dump", object(vec![("states", states(pair.points(), &pair.sides[1]))])));
         }
         parts.push(("difference", difference(pair)));
     }
@@ -35,14 +35,14 @@ fn run(run: &Run) -> String {
         offsets,
         ("step", given(|masked| masked.step.number().to_string())),
         ("masks", given(|masked| bytes(masked.masks.as_bytes()))),
-        ("states", states(run.direction, &run.recorded)),
+        ("states", states(run.points(), &run.recorded)),
     ])
 }
 
 /// A line for each.
-fn states(direction: Direction, recorded: &Recorded) -> String {
+fn states(points: impl Iterator<Item = Point>, recorded: &Recorded) -> String {
     let masks = recorded.masks();
-    let rows = direction.points().map(|point| {
+    let rows = points.map(|point| {
         let [plain, mask, state] = [&recorded.plain, &masks, &recorded.states].map(|of| bytes(&of[16 * point.number()..][..16]));
         let mut parts = named(point);
         parts.extend([("plain", plain), ("mask", mask), ("mask_name", string(&recorded.covers[point.number()].name()))]);

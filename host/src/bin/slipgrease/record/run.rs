@@ -5,7 +5,7 @@ use crate::fault::Fault;
 use crate::hex::digits;
 use crate::record::cover::{Cover, Start};
 use crate::words::{Given, Number};
-use slipgrease::{Direction, Masks, Offsets, Refusal, Step};
+use slipgrease::{Direction, Masks, Offsets, Point, Refusal, Rounds, Schedule, Step};
 
 /// What a run is asked for with.
 pub struct Asked {
@@ -42,7 +42,7 @@ impl Recorded {
 
 pub struct Run {
     pub direction: Direction,
-    pub schedule: Vec<u8>,
+    pub schedule: Schedule,
     pub block: Vec<u8>,
     pub masked: Option<Masked>,
     pub recorded: Recorded,
@@ -52,7 +52,8 @@ impl Run {
     pub fn new(asked: Asked) -> Result<Run, Fault> {
         let Asked { direction, keyed, block, masking, offsets_called } = asked;
         let refused = |refusal| explained(refusal, &keyed, &block, masking.as_ref());
-        let mut plain = vec![0; 16 * direction.states()];
+        let schedule = Schedule::try_from(&keyed.bytes[..]).map_err(refused)?;
+        let mut plain = vec![0; 16 * direction.states(schedule.rounds())];
         let mut states = plain.clone();
         let masked = match &masking {
             None => None,
@@ -63,20 +64,33 @@ impl Run {
                     Direction::Encryption => slipgrease::record_masked,
                     Direction::Decryption => slipgrease::record_masked_decryption,
                 };
-                record(&keyed.bytes, &block.bytes, bytes, &offsets, step, &mut states).map_err(refused)?;
+                record(schedule.as_bytes(), &block.bytes, bytes, &offsets, step, &mut states).map_err(refused)?;
                 let taken = "the library has taken it";
                 let start = Start::new(Offsets::try_from(&offsets[..]).expect(taken), offsets_called);
                 let masks = Masks::try_from(bytes).expect(taken);
                 Some(Masked { masks, start, step: Step::new(step).expect(taken) })
             }
         };
-        record_plain(direction, &keyed.bytes, &block.bytes, &mut plain).map_err(refused)?;
+        record_plain(direction, schedule.as_bytes(), &block.bytes, &mut plain).map_err(refused)?;
         if masked.is_none() {
             states = plain.clone();
         }
         let cover = |point| Cover(masked.map(|Masked { start, step, .. }| (point, start, step)));
-        let covers = direction.points().map(cover).collect();
-        Ok(Run { direction, schedule: keyed.bytes, block: block.bytes, masked, recorded: Recorded { states, plain, covers } })
+        let covers = direction.points(schedule.rounds()).map(cover).collect();
+        Ok(Run { direction, schedule, block: block.bytes, masked, recorded: Recorded { states, plain, covers } })
+    }
+
+    pub fn rounds(&self) -> Rounds {
+        self.schedule.rounds()
+    }
+
+    pub fn points(&self) -> impl Iterator<Item = Point> {
+        self.direction.points(self.rounds())
+    }
+
+    /// As FIPS 197 names it by the bits of the key: AES-256.
+    pub fn cipher(&self) -> String {
+        format!("AES-{}", 8 * self.rounds().key_bytes())
     }
 
     /// The offset and the step, or that it is plain. Of sixteen offsets it has what they are called.

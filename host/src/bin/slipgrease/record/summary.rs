@@ -27,7 +27,7 @@ fn counted(pair: &Pair) -> String {
     let Counts { under, by_masks, hidden } = pair.all();
     let (differ, states) = (under + by_masks, pair.states());
     let s = if differ == 1 { "s" } else { "" };
-    let mut said = format!("{differ} of {} bytes differ{s}, in {states} of {} states", pair.bytes(), pair.direction.states());
+    let mut said = format!("{differ} of {} bytes differ{s}, in {states} of {} states", pair.bytes(), pair.points().count());
     if pair.masked {
         said += &format!(": {under} under the masks, {by_masks} by the masks alone");
     }

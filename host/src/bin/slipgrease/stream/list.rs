@@ -36,15 +36,15 @@ pub fn read(end: &End, standard: &mut dyn BufRead) -> Result<Pipes, Fault> {
 fn pipe(words: &[&str]) -> Result<(u16, Vec<u8>), String> {
     let (pid, even, odd, start) = match words[..] {
         [pid, even, odd, start] => {
-            (of("PID", pid)?, of("even key", even)?, of("odd key", odd)?, of::<16>("starting block", start)?)
+            (of("PID", pid)?, of::<32>("even key", even)?, of::<32>("odd key", odd)?, of::<16>("starting block", start)?)
         }
         _ => {
             let count = count(words.len(), "word");
             return Err(format!(": {count}, and PID, even key, odd key and starting block are expected"));
         }
     };
-    let [even, odd] = [even, odd].map(|key| *Schedule::expand(&key).as_bytes());
-    Ok((u16::from_be_bytes(pid), [&pid[..], &even, &odd, &start].concat()))
+    let [even, odd] = [even, odd].map(|key| Schedule::expand(&key));
+    Ok((u16::from_be_bytes(pid), [&pid[..], even.as_bytes(), odd.as_bytes(), &start].concat()))
 }
 
 fn of<const N: usize>(what: &str, word: &str) -> Result<[u8; N], String> {

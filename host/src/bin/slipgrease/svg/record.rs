@@ -42,7 +42,7 @@ struct Drawing {
 
 /// One plain run, one masked run with its masks, or two sides and what differs. `private` is said of the file that it goes to.
 pub fn record(run: &Run, pair: Option<&Pair>, private: bool) -> String {
-    let points: Vec<Point> = run.direction.points().collect();
+    let points: Vec<Point> = run.points().collect();
     let mut foot = vec!["The colour is the byte's first digit, the shade its second; 00 is white."];
     foot.extend(pair.map(marks));
     foot.push(GIVES_AWAY);
@@ -65,7 +65,7 @@ fn alone(run: &Run, points: Vec<Point>, foot: Vec<&'static str>) -> Drawing {
             (panels.iter().map(|(caption, states)| Panel::of(*caption, states)).collect(), names)
         }
     };
-    Drawing { head: Head { title: "A run of AES-256", lines }, points, panels, names, foot }
+    Drawing { head: Head { title: format!("A run of {}", run.cipher()), lines }, points, panels, names, foot }
 }
 
 fn compared(pair: &Pair, points: Vec<Point>, foot: Vec<&'static str>) -> Drawing {
@@ -82,7 +82,7 @@ fn compared(pair: &Pair, points: Vec<Point>, foot: Vec<&'static str>) -> Drawing
     let named = [0, 1].map(|side| format!("{}: {}", pair.called[side], pair.named[side]));
     let lines = named.into_iter().chain(pair.another.clone()).chain(sentences(pair)).collect();
     Drawing {
-        head: Head { title: pair.title, lines },
+        head: Head { title: pair.title.clone(), lines },
         names: if pair.masked { points.iter().map(|&point| pair.covers(point)).collect() } else { Vec::new() },
         panels: states.into_iter().chain([under]).map(panel).collect(),
         points,

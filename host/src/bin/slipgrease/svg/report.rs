@@ -27,7 +27,7 @@ const FOOT: [&str; 3] = [
 ];
 
 pub fn report(report: &Report) -> String {
-    let head = Head { title: "The mask report of a sheet", lines: vec![masks(report.masks()), told(report)] };
+    let head = Head { title: "The mask report of a sheet".to_string(), lines: vec![masks(report.masks()), told(report)] };
     let top = head.bottom() + 58;
     let notes: Vec<String> = Row::all().map(|row| note(report, row)).collect();
     let samples_at = top_of(Row::LastKey, top) + CELL_HEIGHT + 22;

@@ -41,7 +41,7 @@ fn a_key_need_not_be_an_argument() {
     assert_eq!(refused(&format!("encrypt --key-file {} {BLOCK}", folder.path(""))).1, 1);
     let short = folder.file("short.txt", &KEY[2..]);
     let told = refused(&format!("encrypt --key-file {short} {BLOCK}")).0;
-    assert_eq!(told, format!("key, {short}: 31 bytes: the key is not 32 bytes long (reply 1, KEY_LENGTH)"));
+    assert_eq!(told, format!("key, {short}: 31 bytes: the key is not 16, 24 or 32 bytes long (reply 1, KEY_LENGTH)"));
 }
 
 #[test]

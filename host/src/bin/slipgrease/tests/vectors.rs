@@ -111,8 +111,8 @@ fn a_line_that_is_wrong_is_named() {
         (format!("\n{KEY} {BLOCK} 00\n"), format!(", line 2, ciphertext: 1 byte: {length}")),
         (format!("{KEY} {BLOCK} 0g"), ", line 1, ciphertext: 'g' at digit 2 is not a hex digit".into()),
         (
-            format!("COUNT = 0\nKEY = {BLOCK}\nPLAINTEXT = {BLOCK}\nCIPHERTEXT = {BLOCK}\n"),
-            ", line 2, COUNT = 0, KEY: 16 bytes: the key is not 32 bytes long (reply 1, KEY_LENGTH)".into(),
+            format!("COUNT = 0\nKEY = {}\nPLAINTEXT = {BLOCK}\nCIPHERTEXT = {BLOCK}\n", &KEY[..40]),
+            ", line 2, COUNT = 0, KEY: 20 bytes: the key is not 16, 24 or 32 bytes long (reply 1, KEY_LENGTH)".into(),
         ),
         (
             format!("{field}CIPHERTEXT = {BLOCK}{BLOCK}\n"),

@@ -91,11 +91,12 @@ fn what_is_wrong_otherwise_is_a_caller_fault() {
         (format!("wrap --offset 16 {KEY} {short}"), format!("--offset 16: {range}")),
         (
             format!("wrap {} {short}", &KEY[2..]),
-            "key, argument 1: 31 bytes: the key is not 32 bytes long (reply 1, KEY_LENGTH)".into(),
+            "key, argument 1: 31 bytes: the key is not 16, 24 or 32 bytes long (reply 1, KEY_LENGTH)".into(),
         ),
         (
             format!("wrap --offset 16 --schedule {KEY} {BLOCK}"),
-            "schedule, option --schedule: 32 bytes: the schedule is not 240 bytes long (reply 2, SCHEDULE_LENGTH)".into(),
+            "schedule, option --schedule: 32 bytes: a wrapping key is 32 bytes, and its schedule 240 (reply 2, SCHEDULE_LENGTH)"
+                .into(),
         ),
         (format!("unwrap {KEY} a6"), format!("wrapped key, argument 2: 1 byte, so 0 of key data: {length}")),
         (format!("unwrap {KEY} {BLOCK}"), format!("wrapped key, argument 2: 16 bytes, so 8 of key data: {length}")),

@@ -130,8 +130,7 @@ impl<'a> Vectors<'a> {
             blocks => Ok(blocks),
         };
         let key = bytes(0)?;
-        let mut schedule = [0; 240];
-        slipgrease::expand_key(&key, &mut schedule).map_err(|refusal| refused(0, key.len(), refusal))?;
+        let schedule = Schedule::expand_slice(&key).map_err(|refusal| refused(0, key.len(), refusal))?;
         let (blocks, ciphertexts) = (blocks(1)?, blocks(2)?);
         if blocks.len() != ciphertexts.len() {
             let (found, expected) = (ciphertexts.len(), blocks.len());
@@ -141,6 +140,6 @@ impl<'a> Vectors<'a> {
                 names[1]
             )));
         }
-        Ok(Vector { line, place, schedule: Schedule::new(schedule), blocks, ciphertexts, times: self.times })
+        Ok(Vector { line, place, schedule, blocks, ciphertexts, times: self.times })
     }
 }

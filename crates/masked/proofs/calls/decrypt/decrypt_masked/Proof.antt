@@ -3,6 +3,7 @@
 use mathlib.Core.List.{List, []}
 use Prim.Native.Nat.{ℕ}
 use borrow.Author.Needs.{needs}
+use Rattle.aes.specs.Key.{roundsOf}
 use Rattle.aes.proofs.Replies.{refused}
 use Rattle.runs.specs.Back.{maskedInvCipher}
 use Rattle.masked.specs.Calls.{backChecks}
@@ -35,7 +36,7 @@ returns-2 c =
     let passed-on = start .before in
     let told = passed-on .before in
     let a = told .before .before .before .before .before .before .before .args in
-    block-answer (a .schedule .now) (a .input .now) (a .output .now) (a .masks .now) (a .offsets .now) (a .step) 0 (told .refusal .ensures) (passed-on .if1 .left) (start .lent .result) (start .lent .ensures) (λ (v : List ℕ). maskedInvCipher 14 (a .masks .now) v (a .step) (a .schedule .now) (a .input .now)) (run .decrypted .ensures)
+    block-answer (a .schedule .now) (a .input .now) (a .output .now) (a .masks .now) (a .offsets .now) (a .step) 0 (told .refusal .ensures) (passed-on .if1 .left) (start .lent .result) (start .lent .ensures) (λ (v : List ℕ). maskedInvCipher (roundsOf (a .schedule .now)) (a .masks .now) v (a .step) (a .schedule .now) (a .input .now)) (run .decrypted .ensures)
 
 pub decrypt-masked-spec : {M : Type 1} → statement M
 decrypt-masked-spec = tie.close (tie.spec (λ c κs. search needs) (λ c. search needs) returns offsets-lent lent (λ c. search needs) returns-2)

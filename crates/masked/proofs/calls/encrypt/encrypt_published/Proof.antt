@@ -5,6 +5,7 @@ use mathlib.Core.Path.{_≡_, ap, _∙_}
 use Prim.Native.Nat.{ℕ}
 use borrow.Author.Needs.{needs}
 use Rattle.aes.specs.Reply.{Check, refusal}
+use Rattle.aes.specs.Key.{roundsOf}
 use Rattle.aes.proofs.Replies.{telling, refused, passed}
 use Rattle.masks.specs.Mask.{published}
 use Rattle.runs.specs.Run.{maskedCipher}
@@ -46,7 +47,7 @@ returns-2 c =
     let reply : told .refusal .result ≡ refusal cs = told .refusal .ensures ∙ published-refusal (a .schedule .now) (a .input .now) (a .output .now) (a .offsets .now) (a .step) (a .form) in
     let s = sizes (a .schedule .now) (a .input .now) (a .output .now) (a .input .now) (a .offsets .now) (a .step) (a .form) (told .refusal .ensures) (passed-on .if1 .left) in
     let v-is = record-lent (start .lent .result) (a .offsets .now) (start .lent .ensures) (s .offsets) in
-    (λ i. (0, (run .sealed .ensures ∙ ap (λ (v : List ℕ). maskedCipher 14 published v (a .step) (a .schedule .now) (a .input .now)) v-is) i))
+    (λ i. (0, (run .sealed .ensures ∙ ap (λ (v : List ℕ). maskedCipher (roundsOf (a .schedule .now)) published v (a .step) (a .schedule .now) (a .input .now)) v-is) i))
     ∙ passed (a .output .now) _ [] cs tt reply (passed-on .if1 .left)
 
 pub encrypt-published-spec : {M : Type 1} → statement M

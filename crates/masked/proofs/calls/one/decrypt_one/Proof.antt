@@ -1,13 +1,15 @@
 -- The checks, and then the run.
 -- Assumes nothing.
 use mathlib.Core.List.{List, []}
+use mathlib.Core.Path.{ap, _∙_}
 use Prim.Native.Nat.{ℕ}
 use borrow.Author.Needs.{needs}
 use Rattle.aes.proofs.Replies.{refused}
 use Rattle.masks.specs.Mask.{published}
+use Rattle.lent.specs.Started.{recordOf}
 use Rattle.runs.specs.Back.{maskedInvCipher}
 use Rattle.masked.specs.Calls.{oneChecks}
-use Rattle.masked.proofs.Checked.{one-lent, one-answer}
+use Rattle.masked.proofs.Checked.{one-lent, one-rounds, one-answer}
 use Rattle.masked.proofs.calls.one.decrypt_one.Statement.{statement}
 use Rattle.masked.proofs.calls.one.decrypt_one.Tie as tie
 
@@ -29,8 +31,9 @@ returns-2 c =
     let start = run .before in
     let passed-on = start .before .before in
     let a = passed-on .before .before .before .before .before .before .args in
+    let rounds = one-rounds (a .schedule .now) (a .input .now) (a .output .now) (a .offset) (passed-on .before .refusal .ensures) (passed-on .if1 .left) (start .one .result) (start .one .ensures) in
     one-answer (a .schedule .now) (a .input .now) (a .output .now) (a .offset) (passed-on .before .refusal .ensures) (passed-on .if1 .left) (start .one .result) (start .one .ensures)
-    (λ (v : List ℕ). maskedInvCipher 14 published v 1 (a .schedule .now) (a .input .now)) (run .unsealed .ensures)
+    (λ (v : List ℕ). maskedInvCipher 14 published v 1 (a .schedule .now) (a .input .now)) (run .unsealed .ensures ∙ ap (λ (n : ℕ). maskedInvCipher n published (recordOf (start .one .result)) 1 (a .schedule .now) (a .input .now)) rounds)
 
 pub decrypt-one-spec : {M : Type 1} → statement M
 decrypt-one-spec = tie.close (tie.spec (λ c κs. search needs) (λ c. search needs) returns (λ c κs. search needs) lent (λ c. search needs) returns-2)
