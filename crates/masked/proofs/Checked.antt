@@ -3,15 +3,15 @@
 use mathlib.Core.Path.{_≡_, refl, sym, ap, _∙_}
 use mathlib.Core.Bool.{Bool, true, false, cond}
 use mathlib.Core.List.{List, [], _∷_, _++_}
-use Prim.Native.Nat.{ℕ, _+_, _*_, _%_}
+use Prim.Native.Nat.{ℕ, _+_, _%_}
 use lib.Dec.{T, eqb, leb, eqb→eq, lit≤}
 use lib.ListN.{length}
-use Rattle.aes.specs.Reply.{Check, _else_, answer, refusal, scheduled, roundsFor, isSchedule, isInput, isOutput, isMaskTable, hasByteOffsets, areOffsets, isStep, isForm}
+use Rattle.aes.specs.Reply.{Check, _else_, answer, refusal, scheduled, isSchedule, isInput, isOutput, isMaskTable, hasByteOffsets, areOffsets, isStep, isForm}
 use Rattle.aes.specs.Byte.{below}
 use Rattle.aes.specs.State.{at}
 use Rattle.aes.specs.Key.{roundsOf}
 use Rattle.aes.proofs.Below.{under}
-use Rattle.aes.proofs.Schedule.{known, full}
+use Rattle.aes.proofs.Schedule.{full}
 use Rattle.aes.proofs.Replies.{AllHold, telling, all-hold, holds-done, is-true}
 use Rattle.masks.specs.Mask.{one}
 use Rattle.lent.specs.declared.given.Start.{Start}
