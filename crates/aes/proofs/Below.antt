@@ -21,12 +21,12 @@ below_not p zero k lt e = absurd (omega arith)
 below_not p (suc n) k lt e =
     elim (ℕ_discrete k n) [
       | yes same ↦ rw (← same, e)
-      | no other ↦ simp (below_not p n k (omega arith) e, and-false)
+      | no other ↦ simp (below_not p n k (omega arith) e, and_false)
     ]
   where
-    and-false : (b : Bool) → (b && false) ≡ false
-    and-false true = refl
-    and-false false = refl
+    and_false : (b : Bool) → (b && false) ≡ false
+    and_false true = refl
+    and_false false = refl
 
 -- what holds of each holds of all
 pub below_all : (p : ℕ → Bool) (n : ℕ) → ((k : ℕ) → k < n → p k ≡ true) → below n p ≡ true

@@ -8,7 +8,7 @@ use Rattle.aes.specs.Byte.{◌⊕◌, bit, table}
 use Rattle.aes.specs.Field.{modulus, x_times, times, ◌•◌}
 use Rattle.aes.proofs.Xor.{xor_self, xor_byte}
 use Rattle.aes.proofs.Listed.{agree}
-use Rattle.aes.proofs.Products.{double_xor, times-xor-left, times-xor-right, times_zero, times_below, times-swap, times-comm}
+use Rattle.aes.proofs.Products.{double_xor, times_xor_left, times_xor_right, times_zero, times_below, times_swap, times_comm}
 
 pub x_times_xor : (a b : ℕ) → x_times (a ⊕ b) ≡ x_times a ⊕ x_times b
 unfolding x_times
@@ -17,11 +17,11 @@ x_times_xor = double_xor modulus 7
 -- The product distributes over the sum.
 pub product_xor_left : (a b c : ℕ) → (a ⊕ b) • c ≡ a • c ⊕ b • c
 unfolding ◌•◌
-product_xor_left = times-xor-left x_times x_times_xor 8
+product_xor_left = times_xor_left x_times x_times_xor 8
 
 pub product_xor_right : (a b c : ℕ) → a • (b ⊕ c) ≡ a • b ⊕ a • c
 unfolding ◌•◌
-product_xor_right = times-xor-right x_times x_times_xor 8
+product_xor_right = times_xor_right x_times x_times_xor 8
 
 pub product_zero_left : (b : ℕ) → 0 • b ≡ 0
 unfolding ◌•◌
@@ -48,11 +48,11 @@ product_byte = times_below x_times x_times_xor 8 x_times_byte 8
 
 pub product_swap : (a b c : ℕ) → a • b • c ≡ a • c • b
 unfolding ◌•◌
-product_swap = times-swap x_times x_times_xor 8 8
+product_swap = times_swap x_times x_times_xor 8 8
 
 pub product_comm : (a b : ℕ) → a < 256 → b < 256 → a • b ≡ b • a
 unfolding ◌•◌
-product_comm = times-comm x_times x_times_xor 8 x_times_byte product_one
+product_comm = times_comm x_times x_times_xor 8 x_times_byte product_one
 
 pub product_one_right : (b : ℕ) → b < 256 → b • 1 ≡ b
 product_one_right b h = product_comm b 1 h (lit< tt) ∙ product_one b h

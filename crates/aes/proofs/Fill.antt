@@ -20,10 +20,10 @@ pub filled_none : {f : ℕ → ℕ} {n : ℕ} {r : List ℕ} → length r ≡ n 
 filled_none e = record { room = e; within = omega arith; so_far = λ k h. absurd (omega arith) }
 
 pub filled_more : {f : ℕ → ℕ} {n i : ℕ} {r : List ℕ} {v : ℕ} → Filled f n i r → i < n → v ≡ f i → Filled f n (i + 1) (set r i v)
-filled_more {f} {n} {i} {r} {v} p l e = record { room = length-set r i v ∙ p.room; within = omega arith; so_far = at-k }
+filled_more {f} {n} {i} {r} {v} p l e = record { room = length-set r i v ∙ p.room; within = omega arith; so_far = at_k }
   where
-    at-k : (k : ℕ) → k < i + 1 → get_or (set r i v) k 0 ≡ f k
-    at-k k lt =
+    at_k : (k : ℕ) → k < i + 1 → get_or (set r i v) k 0 ≡ f k
+    at_k k lt =
         elim (dec_lt k i) [
           | yes q ↦ get_or-set_other r i k v 0 (omega arith) ∙ p.so_far k q
           | no q ↦ let e' : k ≡ i = omega arith in rw e' (get_or-set_same r i v 0 (omega arith) ∙ e)

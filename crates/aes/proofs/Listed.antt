@@ -54,10 +54,10 @@ module _ (f v : ℕ → ℕ) (n : ℕ) (tests : Inverted v n (table f n)) (k : �
       let e : p / n ≡ 0 = agree (λ k. place (v k) (table f n) / n) (λ k. 0) n tests.0 k h in
       rw one-mul at ((div-lt_iff_lt-mul {k = n} {x = p} {y = 1} (omega arith)).0 (rw e (lit< tt)))
 
-  pub place-right : f (place (v k) (table f n)) ≡ v k
-  place-right =
+  pub place_right : f (place (v k) (table f n)) ≡ v k
+  place_right =
       sym (table_at f n (place (v k) (table f n)) place-below)
       ∙ agree (λ k. get_or (table f n) (place (v k) (table f n)) 0) v n tests.1 k h
 
-  pub place-only : place (f k) (table f n) ≡ k
-  place-only = rw (← table_at f n k h) (agree (λ k. place (get_or (table f n) k 0) (table f n)) (λ k. k) n tests.2 k h)
+  pub place_only : place (f k) (table f n) ≡ k
+  place_only = rw (← table_at f n k h) (agree (λ k. place (get_or (table f n) k 0) (table f n)) (λ k. k) n tests.2 k h)

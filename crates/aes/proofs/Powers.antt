@@ -9,7 +9,7 @@ use lib.Dec.{lit<}
 use lib.ListN.{get_or}
 use Rattle.aes.specs.Byte.{◌⊕◌, listed, table, place}
 use Rattle.aes.specs.Field.{x_times, times, ◌•◌, raise, power, logarithm, logarithms}
-use Rattle.aes.proofs.Listed.{Inverted, table_at, table_same, place-below, place-right, place-only}
+use Rattle.aes.proofs.Listed.{Inverted, table_at, table_same, place-below, place_right, place_only}
 use Rattle.aes.proofs.FieldLaws.{product_one, product_three, product_byte, product_assoc}
 
 pub raise_byte : (b n : ℕ) → b < 256 → raise b n < 256
@@ -103,11 +103,11 @@ logarithm-below (suc k) p h = place-below power suc 255 inverted k (omega arith)
 pub power-logarithm : (b : ℕ) → 0 < b → b < 256 → power (logarithm b) ≡ b
 unfolding logarithm
 power-logarithm zero p h = absurd (omega arith)
-power-logarithm (suc k) p h = place-right power suc 255 inverted k (omega arith)
+power-logarithm (suc k) p h = place_right power suc 255 inverted k (omega arith)
 
 pub logarithm-power : (n : ℕ) → n < 255 → logarithm (power n) ≡ n
 unfolding logarithm
-logarithm-power n h = place-only power suc 255 inverted n h
+logarithm-power n h = place_only power suc 255 inverted n h
 
 -- a product by logarithms
 pub product_by_logarithms : (a b : ℕ) → 0 < a → a < 256 → 0 < b → b < 256 → power ((logarithm a + logarithm b) % 255) ≡ a • b

@@ -8,7 +8,7 @@ use lib.Bits.{xor_shr, xor_mod, xor_block, xor_lt}
 use lib.Dec.{lit<}
 use Rattle.aes.specs.Byte.{◌⊕◌, bit}
 use Rattle.aes.specs.Field.{double_by, times}
-use Rattle.aes.proofs.Xor.{mod-two, sums, xor_self, xor_zero}
+use Rattle.aes.proofs.Xor.{mod_two, sums, xor_self, xor_zero}
 
 -- A bit p passes through what keeps 0, and spreads over a sum on either side of it.
 pub bit_through : (f : ℕ → ℕ) → f 0 ≡ 0 → (x p : ℕ) → p < 2 → f (x * p) ≡ f x * p
@@ -38,51 +38,51 @@ twice a b = sym (simp add-zero at (xor_block 1 a b 0 0 (lit< tt) (lit< tt)))
 
 pub double_xor : (m k a b : ℕ) → double_by m k (a ⊕ b) ≡ double_by m k a ⊕ double_by m k b
 double_xor m k a b =
-    rw (twice a b, xor_shr a b k, xor_mod (a / 2 ^ k) (b / 2 ^ k) 1, bit_left m (a / 2 ^ k % 2) (b / 2 ^ k % 2) (mod-two _) (mod-two _))
+    rw (twice a b, xor_shr a b k, xor_mod (a / 2 ^ k) (b / 2 ^ k) 1, bit_left m (a / 2 ^ k % 2) (b / 2 ^ k % 2) (mod_two _) (mod_two _))
     (simp sums)
 
 module _ (double : ℕ → ℕ) (keeps : (a b : ℕ) → double (a ⊕ b) ≡ double a ⊕ double b) where
-  pub times-xor-left : (n a b c : ℕ) → times double n (a ⊕ b) c ≡ times double n a c ⊕ times double n b c
+  pub times_xor_left : (n a b c : ℕ) → times double n (a ⊕ b) c ≡ times double n a c ⊕ times double n b c
   unfolding times
-  times-xor-left zero a b c = refl
-  times-xor-left (suc n) a b c =
-      rw (bit_right a b (c % 2) (mod-two c), keeps a b, times-xor-left n (double a) (double b) (c / 2)) (simp sums)
+  times_xor_left zero a b c = refl
+  times_xor_left (suc n) a b c =
+      rw (bit_right a b (c % 2) (mod_two c), keeps a b, times_xor_left n (double a) (double b) (c / 2)) (simp sums)
 
-  pub times-xor-right : (n a b c : ℕ) → times double n a (b ⊕ c) ≡ times double n a b ⊕ times double n a c
+  pub times_xor_right : (n a b c : ℕ) → times double n a (b ⊕ c) ≡ times double n a b ⊕ times double n a c
   unfolding times
-  times-xor-right zero a b c = refl
-  times-xor-right (suc n) a b c =
-      rw (xor_mod b c 1, xor_shr b c 1, bit_left a (b % 2) (c % 2) (mod-two b) (mod-two c), times-xor-right n (double a) (b / 2) (c / 2))
+  times_xor_right zero a b c = refl
+  times_xor_right (suc n) a b c =
+      rw (xor_mod b c 1, xor_shr b c 1, bit_left a (b % 2) (c % 2) (mod_two b) (mod_two c), times_xor_right n (double a) (b / 2) (c / 2))
       (simp sums)
 
-  double-zero : double 0 ≡ 0
-  double-zero = keeps 0 0 ∙ xor_self (double 0)
+  double_zero : double 0 ≡ 0
+  double_zero = keeps 0 0 ∙ xor_self (double 0)
 
   pub times_zero : (n c : ℕ) → times double n 0 c ≡ 0
   unfolding times
   times_zero zero c = refl
-  times_zero (suc n) c = rw (zero-mul (c % 2), double-zero, times_zero n (c / 2))
+  times_zero (suc n) c = rw (zero-mul (c % 2), double_zero, times_zero n (c / 2))
 
-  times-double : (n b c : ℕ) → times double n (double b) c ≡ double (times double n b c)
+  times_double : (n b c : ℕ) → times double n (double b) c ≡ double (times double n b c)
   unfolding times
-  times-double zero b c = sym double-zero
-  times-double (suc n) b c =
+  times_double zero b c = sym double_zero
+  times_double (suc n) b c =
       rw (
         keeps (b * (c % 2)) (times double n (double b) (c / 2)),
-        bit_through double double-zero b (c % 2) (mod-two c),
-        times-double n (double b) (c / 2),
+        bit_through double double_zero b (c % 2) (mod_two c),
+        times_double n (double b) (c / 2),
       )
 
   -- Two factors change places behind a third, whatever numbers they are; behind 1 that is commutativity.
-  pub times-swap : (n m a b c : ℕ) → times double n (times double m a b) c ≡ times double m (times double n a c) b
+  pub times_swap : (n m a b c : ℕ) → times double n (times double m a b) c ≡ times double m (times double n a c) b
   unfolding times
-  times-swap n zero a b c = times_zero n c
-  times-swap n (suc m) a b c =
+  times_swap n zero a b c = times_zero n c
+  times_swap n (suc m) a b c =
       rw (
-        times-xor-left n (a * (b % 2)) (times double m (double a) (b / 2)) c,
-        bit_through (λ x. times double n x c) (times_zero n c) a (b % 2) (mod-two b),
-        times-swap n m (double a) (b / 2) c,
-        times-double n a c,
+        times_xor_left n (a * (b % 2)) (times double m (double a) (b / 2)) c,
+        bit_through (λ x. times double n x c) (times_zero n c) a (b % 2) (mod_two b),
+        times_swap n m (double a) (b / 2) c,
+        times_double n a c,
       )
 
   -- where doubling stays within n bits, so does a product; and where 1 is one there, factors change places
@@ -91,9 +91,9 @@ module _ (double : ℕ → ℕ) (keeps : (a b : ℕ) → double (a ⊕ b) ≡ do
     unfolding times
     times_below zero b c h = omega (arith, h)
     times_below (suc k) b c h =
-        xor_lt n (b * (c % 2)) (times double k (double b) (c / 2)) (bit_below (2 ^ n) b (c % 2) h (mod-two c))
+        xor_lt n (b * (c % 2)) (times double k (double b) (c / 2)) (bit_below (2 ^ n) b (c % 2) h (mod_two c))
         (times_below k (double b) (c / 2) (stays b h))
 
-    pub times-comm : ((b : ℕ) → b < 2 ^ n → times double n 1 b ≡ b) → (a b : ℕ) → a < 2 ^ n → b < 2 ^ n → times double n a b ≡ times double n b a
-    times-comm one a b ha hb =
-        ap (λ (x : ℕ). times double n x b) (sym (one a ha)) ∙ times-swap n n 1 a b ∙ ap (λ (x : ℕ). times double n x a) (one b hb)
+    pub times_comm : ((b : ℕ) → b < 2 ^ n → times double n 1 b ≡ b) → (a b : ℕ) → a < 2 ^ n → b < 2 ^ n → times double n a b ≡ times double n b a
+    times_comm one a b ha hb =
+        ap (λ (x : ℕ). times double n x b) (sym (one a ha)) ∙ times_swap n n 1 a b ∙ ap (λ (x : ℕ). times double n x a) (one b hb)

@@ -39,25 +39,25 @@ passed_on {n} {m} c =
     record { earlier = (true else m) ∷ c.earlier; later = c.later; order = ap (λ (cs : List Check). (true else m) ∷ cs) c.order; held = (tt, c.held) }
 
 module _ {A : Type 0} (before done : A) where
-  pub refusal-cause : (checks : List Check) → ((answer checks before done).0 ≡ 0 → ⊥)
+  pub refusal_cause : (checks : List Check) → ((answer checks before done).0 ≡ 0 → ⊥)
       → Cause (answer checks before done).0 checks × ((answer checks before done).1 ≡ before)
   unfolding AllHold
-  refusal-cause [] h = absurd (h refl)
-  refusal-cause ((true else m) ∷ checks) h = let r = refusal-cause checks h in (passed_on r.0, r.1)
-  refusal-cause ((false else m) ∷ checks) h = (record { earlier = []; later = checks; order = refl; held = tt }, refl)
+  refusal_cause [] h = absurd (h refl)
+  refusal_cause ((true else m) ∷ checks) h = let r = refusal_cause checks h in (passed_on r.0, r.1)
+  refusal_cause ((false else m) ∷ checks) h = (record { earlier = []; later = checks; order = refl; held = tt }, refl)
 
-  pub done-holds : (checks : List Check) → T (telling checks) → (answer checks before done).0 ≡ 0
+  pub done_holds : (checks : List Check) → T (telling checks) → (answer checks before done).0 ≡ 0
       → AllHold checks × ((answer checks before done).1 ≡ done)
   unfolding AllHold telling
-  done-holds [] t e = (tt, refl)
-  done-holds ((true else m) ∷ checks) t e = let r = done-holds checks (and_yes (not (eqb m 0)) (telling checks) t).1 e in ((tt, r.0), r.1)
-  done-holds ((false else m) ∷ checks) t e = absurd (nonzero m (and_yes (not (eqb m 0)) (telling checks) t).0 e)
+  done_holds [] t e = (tt, refl)
+  done_holds ((true else m) ∷ checks) t e = let r = done_holds checks (and_yes (not (eqb m 0)) (telling checks) t).1 e in ((tt, r.0), r.1)
+  done_holds ((false else m) ∷ checks) t e = absurd (nonzero m (and_yes (not (eqb m 0)) (telling checks) t).0 e)
 
-  pub holds-done : (checks : List Check) → AllHold checks → answer checks before done ≡ (0, done)
+  pub holds_done : (checks : List Check) → AllHold checks → answer checks before done ≡ (0, done)
   unfolding AllHold
-  holds-done [] h = refl
-  holds-done ((true else m) ∷ checks) h = holds-done checks h.1
-  holds-done ((false else m) ∷ checks) h = absurd h.0
+  holds_done [] h = refl
+  holds_done ((true else m) ∷ checks) h = holds_done checks h.1
+  holds_done ((false else m) ∷ checks) h = absurd h.0
 
 -- checks that are told together, by the number r, and what is checked after them
 module _ {A : Type 0} (before done : A) (more : List Check) where

@@ -34,9 +34,9 @@ module _ (nk : ℕ) (key : List ℕ) (k : length key ≡ 4 * nk) where
   expanded-length zero = k ∙ omega arith
   expanded-length (suc n) = simp (length-append, next-length, expanded-length n) (omega arith)
 
-  pub expanded-more : (i : ℕ) → nk ≤ i → expanded nk key (i + 1 - nk) ≡ expanded nk key (i - nk) ++ next_word nk (expanded nk key (i - nk)) i
+  pub expanded_more : (i : ℕ) → nk ≤ i → expanded nk key (i + 1 - nk) ≡ expanded nk key (i - nk) ++ next_word nk (expanded nk key (i - nk)) i
   unfolding expanded
-  expanded-more i h =
+  expanded_more i h =
       let e : i + 1 - nk ≡ suc (i - nk) = omega arith in
       let f : nk + (i - nk) ≡ i = omega arith in
       rw e (ap (λ (j : ℕ). expanded nk key (i - nk) ++ next_word nk (expanded nk key (i - nk)) j) f)
@@ -63,12 +63,12 @@ module _ (nk : ℕ) (key w ys : List ℕ) (i : ℕ) (some : 4 ≤ nk) (le : nk �
 
   pub expanded-held : i < 60 → Holds 240 (expanded nk key (i + 1 - nk)) (back w (4 * i) (4 * i + 4 - 4 * i) ys)
   expanded-held lt =
-      rw (expanded-more nk key k i le)
+      rw (expanded_more nk key k i le)
       (lent 240 (4 * i) (4 * i + 4) p (next_word nk p i) w ys h size made (next-length nk p i ∙ omega arith) (omega arith) (omega arith))
 
   pub last_word : ys ≡ word_at (expanded nk key (i + 1 - nk)) (i + 1 - 1)
   unfolding next_word
-  last_word = let here : i + 1 - 1 ≡ i = omega arith in made ∙ sym (rw (here, expanded-more nk key k i le, ← size) (λ t. byte 0 t ∷ byte 1 t ∷ byte 2 t ∷ byte 3 t ∷ []))
+  last_word = let here : i + 1 - 1 ≡ i = omega arith in made ∙ sym (rw (here, expanded_more nk key k i le, ← size) (λ t. byte 0 t ∷ byte 1 t ∷ byte 2 t ∷ byte 3 t ∷ []))
     where
       byte : (j : ℕ) → at (p ++ next_word nk p i) (length p + j) ≡ at (next_word nk p i) j
       byte j = get_or-append-add p (next_word nk p i) j 0
@@ -115,11 +115,11 @@ more_rounds n e =
 
 -- as code counts them: k, which is none where it is no schedule
 pub unscheduled : (n k : ℕ) → k ≡ rounds_for n → k ≡ 0 → scheduled n ≡ false
-unscheduled n k e z = by-case (scheduled n) refl
+unscheduled n k e z = by_case (scheduled n) refl
   where
-    by-case : (b : Bool) → scheduled n ≡ b → scheduled n ≡ false
-    by-case false q = q
-    by-case true q =
+    by_case : (b : Bool) → scheduled n ≡ b → scheduled n ≡ false
+    by_case false q = q
+    by_case true q =
         let some : 0 < n / 16 - 1 = (some_rounds n q).0 in
         absurd (omega (arith, some, e ∙ ap (λ (b : Bool). cond b (n / 16 - 1) 0) q, z))
 
@@ -134,11 +134,11 @@ known w k e q =
     record { is_one = q; same = same; fits = rw same (some_rounds (length w) q) }
 
 pub counted : (w : List ℕ) (k : ℕ) → k ≡ rounds_for (length w) → (k ≡ 0 → ⊥) → Rounded w k
-counted w k e some = by-case (scheduled (length w)) refl
+counted w k e some = by_case (scheduled (length w)) refl
   where
-    by-case : (b : Bool) → scheduled (length w) ≡ b → Rounded w k
-    by-case true q = known w k e q
-    by-case false q = absurd (some (e ∙ ap (λ (b : Bool). cond b (rounds_of w) 0) q))
+    by_case : (b : Bool) → scheduled (length w) ≡ b → Rounded w k
+    by_case true q = known w k e q
+    by_case false q = absurd (some (e ∙ ap (λ (b : Bool). cond b (rounds_of w) 0) q))
 
 -- the schedule of a key of 32 bytes
 pub full : (w : List ℕ) → length w ≡ 240 → (scheduled (length w) ≡ true) × (rounds_of w ≡ 14)

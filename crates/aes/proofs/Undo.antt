@@ -26,10 +26,10 @@ state-at s l = sym (filled_all {i = 16} (record { room = l; within = omega arith
 
 pub state-bytes : (f : ℕ → ℕ) → ((i : ℕ) → f i < 256) → Bytes 16 (state f)
 unfolding table
-state-bytes f h = record { size = refl; byte = at-k }
+state-bytes f h = record { size = refl; byte = at_k }
   where
-    at-k : (k : ℕ) → at (state f) k < 256
-    at-k k =
+    at_k : (k : ℕ) → at (state f) k < 256
+    at_k k =
         elim (dec_lt k 16) [
           | yes q ↦ rw (table_at f 16 k q) (h k)
           | no q ↦ rw (get_or-eq_default (state f) 0 {n = k} (omega arith)) (lit< tt)

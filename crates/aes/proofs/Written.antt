@@ -23,15 +23,15 @@ module _ {P : Type 0} (f : P → List ℕ → List ℕ) where
   run-append [] qs s = refl
   run-append (p ∷ ps) qs s = ap (λ (u : List (List ℕ)). f p s ∷ u) (run-append ps qs (f p s))
 
-  pub last-size : Sized f → (ps : List P) (s : List ℕ) → length s ≡ 16 → length (last s (run f s ps)) ≡ 16
+  pub last_size : Sized f → (ps : List P) (s : List ℕ) → length s ≡ 16 → length (last s (run f s ps)) ≡ 16
   unfolding run last
-  last-size h [] s l = l
-  last-size h (p ∷ ps) s l = last-size h ps (f p s) (h p s l)
+  last_size h [] s l = l
+  last_size h (p ∷ ps) s l = last_size h ps (f p s) (h p s l)
 
-  pub run-size : Sized f → (ps : List P) (s : List ℕ) → length s ≡ 16 → length (bytes (run f s ps)) ≡ 16 * length ps
+  pub run_size : Sized f → (ps : List P) (s : List ℕ) → length s ≡ 16 → length (bytes (run f s ps)) ≡ 16 * length ps
   unfolding run bytes
-  run-size h [] s l = refl
-  run-size h (p ∷ ps) s l = simp (length-append, h p s l, run-size h ps (f p s) (h p s l)) (omega arith)
+  run_size h [] s l = refl
+  run_size h (p ∷ ps) s l = simp (length-append, h p s l, run_size h ps (f p s) (h p s l)) (omega arith)
 
 bytes-append : (u v : List (List ℕ)) → bytes (u ++ v) ≡ bytes u ++ bytes v
 unfolding bytes
@@ -58,25 +58,25 @@ recorded_one et ey = record { end = et; held = ey ∙ et ∙ sym (append-nil _) 
 
 module _ {P : Type 0} {f : P → List ℕ → List ℕ} (h : Sized f) {s : List ℕ} (l : length s ≡ 16) where
   -- the part from a to e is lent for the points qs
-  pub written-more : {n : ℕ} {ps : List P} {t xs : List ℕ} → Written f s n ps t xs → (qs : List P) (a e : ℕ) {t' ys : List ℕ}
+  pub written_more : {n : ℕ} {ps : List P} {t xs : List ℕ} → Written f s n ps t xs → (qs : List P) (a e : ℕ) {t' ys : List ℕ}
       → 16 * length ps ≡ a → 16 * length qs ≡ e - a → a ≤ e → e ≤ n → Recorded f t qs t' ys → Written f s n (ps ++ qs) t' (back xs a (e - a) ys)
-  written-more {n} {ps} {t} {xs} w qs a e {t'} {ys} ha he le ln r =
-      let lt : length t ≡ 16 = rw w.state (last-size f h ps s l) in
+  written_more {n} {ps} {t} {xs} w qs a e {t'} {ys} ha he le ln r =
+      let lt : length t ≡ 16 = rw w.state (last_size f h ps s l) in
       record {
         state = r.end ∙ rw (run-append f ps qs s, last-append s (run f s ps) (run f (last s (run f s ps)) qs), w.state);
         held =
             rw (run-append f ps qs s, bytes-append (run f s ps) (run f (last s (run f s ps)) qs), ← w.state)
-            (lent n a e (bytes (run f s ps)) (bytes (run f t qs)) xs ys w.held (run-size f h ps s l ∙ ha) r.held (run-size f h qs t lt ∙ he) le ln);
+            (lent n a e (bytes (run f s ps)) (bytes (run f t qs)) xs ys w.held (run_size f h ps s l ∙ ha) r.held (run_size f h qs t lt ∙ he) le ln);
       }
 
   -- the part is lent for one point
   pub written_step : {n : ℕ} {ps : List P} {t xs : List ℕ} → Written f s n ps t xs → (p : P) (a e : ℕ) {t' ys : List ℕ}
       → 16 * length ps ≡ a → 16 ≡ e - a → a ≤ e → e ≤ n → t' ≡ f p t → ys ≡ t' → Written f s n (ps ++ (p ∷ [])) t' (back xs a (e - a) ys)
-  written_step w p a e ha he le ln et ey = written-more w (p ∷ []) a e ha he le ln (recorded_one et ey)
+  written_step w p a e ha he le ln et ey = written_more w (p ∷ []) a e ha he le ln (recorded_one et ey)
 
   pub written_all : {n : ℕ} {ps : List P} {t xs : List ℕ} → Written f s n ps t xs → 16 * length ps ≡ n → Recorded f s ps t xs
   written_all {n} {ps} {t} {xs} w e =
-      record { end = w.state; held = holds_all n (bytes (run f s ps)) xs w.held (run-size f h ps s l ∙ e) }
+      record { end = w.state; held = holds_all n (bytes (run f s ps)) xs w.held (run_size f h ps s l ∙ e) }
 
 -- the five parts of 80 bytes are lent one after the other
 pub written-five : {f : Point → List ℕ → List ℕ} → Sized f → (s : List ℕ) → length s ≡ 16 → (xs : List ℕ) → length xs ≡ 80 → (p q r u v : Point)
@@ -126,14 +126,14 @@ rounds-bytes n h = ap (λ (ps : List Point). 16 * length ps) (sym (rounds_all n 
 
 module _ {P : Type 0} {f : P → List ℕ → List ℕ} (h : Sized f) {s : List ℕ} (l : length s ≡ 16) (b : P) {size : ℕ} where
   -- the first point, a turn more in the k bytes behind what is written, and all points gone through after m turns
-  pub written-first : {t ys : List ℕ} (xs : List ℕ) → 16 ≤ size → length xs ≡ size → t ≡ f b s → ys ≡ t → Written f s size (b ∷ []) t (back xs 0 16 ys)
-  written-first xs le room et ey = written_step h l (written_none f s size xs room) b 0 16 refl refl (lit≤ tt) le et ey
+  pub written_first : {t ys : List ℕ} (xs : List ℕ) → 16 ≤ size → length xs ≡ size → t ≡ f b s → ys ≡ t → Written f s size (b ∷ []) t (back xs 0 16 ys)
+  written_first xs le room et ey = written_step h l (written_none f s size xs room) b 0 16 refl refl (lit≤ tt) le et ey
 
-  pub written-turn : (ps : ℕ → List P) (k : ℕ) → ((i : ℕ) → 16 * length (ps i) ≡ k) → {t t' xs ys : List ℕ} (n : ℕ) → k * n + 16 + k ≤ size
+  pub written_turn : (ps : ℕ → List P) (k : ℕ) → ((i : ℕ) → 16 * length (ps i) ≡ k) → {t t' xs ys : List ℕ} (n : ℕ) → k * n + 16 + k ≤ size
       → Written f s size (b ∷ turns ps n) t xs → Recorded f t (ps n) t' ys
       → Written f s size (b ∷ turns ps (n + 1)) t' (back xs (k * n + 16) (k * n + 16 + k - (k * n + 16)) ys)
-  written-turn ps k e n le w d =
-      rw turns_more (written-more h l w (ps n) (k * n + 16) (k * n + 16 + k) (turns_length b ps k e n) (e n ∙ omega arith) (omega arith) le d)
+  written_turn ps k e n le w d =
+      rw turns_more (written_more h l w (ps n) (k * n + 16) (k * n + 16 + k) (turns_length b ps k e n) (e n ∙ omega arith) (omega arith) le d)
 
   pub written-whole : (ps : ℕ → List P) (m : ℕ) (qs : List P) → b ∷ turns ps m ≡ qs → 16 * length qs ≡ size → {t xs : List ℕ} (n : ℕ) → n ≤ m → m ≤ n
       → Written f s size (b ∷ turns ps n) t xs → xs ≡ bytes (run f s qs)

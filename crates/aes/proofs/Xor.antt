@@ -8,8 +8,8 @@ use lib.Bits.{differ, xor_step, xor_shr, xor_mod, xor_lt}
 use lib.Bits
 use Rattle.aes.specs.Byte.{◌⊕◌}
 
-pub mod-two : (a : ℕ) → a % 2 < 2
-mod-two a = omega arith
+pub mod_two : (a : ℕ) → a % 2 < 2
+mod_two a = omega arith
 
 digit : (x y z : ℕ) → x < 2 → y < 2 → z < 2 → differ (x ⊕ y) z ≡ differ x (y ⊕ z)
 digit zero zero z hx hy hz = refl
@@ -29,7 +29,7 @@ xor_assoc a =
     bin_ind (λ (n : ℕ). (b c : ℕ) → n ⊕ b ⊕ c ≡ n ⊕ (b ⊕ c)) (λ b c. refl)
     (λ n ih b c.
     rw (xor_step (n ⊕ b) c, xor_step n (b ⊕ c), xor_shr n b 1, xor_mod n b 1, xor_shr b c 1, xor_mod b c 1)
-    (ap₂ (λ (p q : ℕ). p * 2 + q) (ih (b / 2) (c / 2)) (digit (n % 2) (b % 2) (c % 2) (mod-two n) (mod-two b) (mod-two c)))) a
+    (ap₂ (λ (p q : ℕ). p * 2 + q) (ih (b / 2) (c / 2)) (digit (n % 2) (b % 2) (c % 2) (mod_two n) (mod_two b) (mod_two c)))) a
 
 pub xor_comm : (a b : ℕ) → a ⊕ b ≡ b ⊕ a
 xor_comm = Bits.xor_comm

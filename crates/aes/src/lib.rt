@@ -1,4 +1,6 @@
 // The lower crate: the field and the cipher of FIPS 197. The rack's engine.
+#![tactic(auto)]
+
 mod cipher;
 mod field;
 mod key;

@@ -63,9 +63,9 @@ module _ (M : List ℕ) (x y z t : ℕ) where
   shown l = pattern x y z (at M l)
 
   -- rows in which each byte has a mask of its own, as it is and moved by SHIFTROWS
-  as-it-is : (k i : ℕ) → i < 16 → count t (patterns (λ o. at (mask M (one o) k) i) x y z) ≡ count t (patterns (at M) x y z)
+  as_it_is : (k i : ℕ) → i < 16 → count t (patterns (λ o. at (mask M (one o) k) i) x y z) ≡ count t (patterns (at M) x y z)
   unfolding shown
-  as-it-is k i h = turned t (λ o. pattern x y z (at (mask M (one o) k) i)) shown (i + k) (λ o. ap (pattern x y z) (mask_byte M o k i h))
+  as_it_is k i h = turned t (λ o. pattern x y z (at (mask M (one o) k) i)) shown (i + k) (λ o. ap (pattern x y z) (mask_byte M o k i h))
 
   moved : (k i : ℕ) → i < 16 → count t (patterns (λ o. at (shift_rows (mask M (one o) k)) i) x y z) ≡ count t (patterns (at M) x y z)
   unfolding shown
@@ -74,9 +74,9 @@ module _ (M : List ℕ) (x y z t : ℕ) where
       (λ o. ap (pattern x y z) (left_at (mask M (one o) k) i h ∙ mask_byte M o k (left i) (left_lt i)))
 
   -- and after MIXCOLUMNS
-  mixed-over : (k i : ℕ) → count t (patterns (λ o. at (mix_columns (shift_rows (mask M (one o) k))) i) x y z) ≡ count t (patterns (at (mixed_over M i)) x y z)
+  mixed_over_lem : (k i : ℕ) → count t (patterns (λ o. at (mix_columns (shift_rows (mask M (one o) k))) i) x y z) ≡ count t (patterns (at (mixed_over M i)) x y z)
   unfolding mixed_over table
-  mixed-over k i =
+  mixed_over_lem k i =
       let g : ℕ → ℕ = λ l. pattern x y z (at (mix_columns (shift_rows (mask M (one 0) l))) i) in
       turned t (λ o. pattern x y z (at (mix_columns (shift_rows (mask M (one o) k))) i)) g k
       (λ o. ap (λ (m : List ℕ). pattern x y z (at (mix_columns (shift_rows m)) i)) (first_label M o k))
@@ -86,12 +86,12 @@ module _ (M : List ℕ) (x y z t : ℕ) where
   pub alike : (d row r i : ℕ) → 1 ≤ row → row ≤ 7 → i < 16 → count_in M d row r i x y z t ≡ count t (patterns (at (values_of M row i)) x y z)
   unfolding row_point mask_by
   alike d zero r i low high h = absurd (omega (arith, low))
-  alike d (suc zero) r i low high h = as-it-is (d * 0) i h
-  alike d (suc (suc zero)) r i low high h = as-it-is (d * r) i h
-  alike d (suc (suc (suc zero))) r i low high h = as-it-is (d * suc r) i h
+  alike d (suc zero) r i low high h = as_it_is (d * 0) i h
+  alike d (suc (suc zero)) r i low high h = as_it_is (d * r) i h
+  alike d (suc (suc (suc zero))) r i low high h = as_it_is (d * suc r) i h
   alike d (suc (suc (suc (suc zero)))) r i low high h = moved (d * suc r) i h
-  alike d (suc (suc (suc (suc (suc zero))))) r i low high h = mixed-over (d * suc r) i
-  alike d (suc (suc (suc (suc (suc (suc zero)))))) r i low high h = as-it-is (d * suc r) i h
+  alike d (suc (suc (suc (suc (suc zero))))) r i low high h = mixed_over_lem (d * suc r) i
+  alike d (suc (suc (suc (suc (suc (suc zero)))))) r i low high h = as_it_is (d * suc r) i h
   alike d (suc (suc (suc (suc (suc (suc (suc zero))))))) r i low high h = moved (d * suc r) i h
   alike d (suc (suc (suc (suc (suc (suc (suc (suc n)))))))) r i low high h = absurd (omega (arith, high))
 
@@ -101,7 +101,7 @@ pub record Within (row i x y z : ℕ) : Type 0 where
   pub high : row ≤ 7
   pub byte : i < 16
   pub rises : x < y
-  pub rises-on : y < z
+  pub rises_on : y < z
   pub first : x < 8
   pub second : y < 8
   pub third : z < 8
@@ -124,7 +124,7 @@ within row i x y z e =
       high = lit≤ one.1;
       byte = omega (arith, hi);
       rises = hx;
-      rises-on = hy;
+      rises_on = hy;
       first = omega (arith, hx, hy, hz);
       second = omega (arith, hy, hz);
       third = omega (arith, hz);

@@ -31,44 +31,44 @@ module _ (a b : ℕ) (pa : 0 < a) (ha : a < 256) (pb : 0 < b) (hb : b < 256) whe
       product_assoc a (inverse b) (b • inverse a) ha (inverse_byte b hb)
       ∙ ap (λ (y : ℕ). a • y) (product_cancel b (inverse a) pb hb (inverse_byte a ha)) ∙ product_inverse a pa ha
 
-  quotient-nonzero : a • inverse b ≡ 0 → ⊥
-  quotient-nonzero e =
+  quotient_nonzero : a • inverse b ≡ 0 → ⊥
+  quotient_nonzero e =
       let f : ◌≡◌ {A = ℕ} 0 1 = rw (e, product_zero_left (b • inverse a)) at turned in
       omega arith
 
-  inverse-quotient : inverse (a • inverse b) ≡ b • inverse a
-  inverse-quotient =
+  inverse_quotient : inverse (a • inverse b) ≡ b • inverse a
+  inverse_quotient =
       sym
-      (inverse_only (a • inverse b) (b • inverse a) (pos_of_ne-zero quotient-nonzero) (product_byte a (inverse b) ha)
+      (inverse_only (a • inverse b) (b • inverse a) (pos_of_ne-zero quotient_nonzero) (product_byte a (inverse b) ha)
       (product_byte b (inverse a) hb) turned)
 
 module _ (x r : ℕ) (px : 0 < x) (hx : x < 256) (pr : 0 < r) (hr : r < 256) (different : x ≡ r → ⊥) where
   abbrev bare : ℕ
   bare = x ⊕ r
 
-  bare-byte : bare < 256
-  bare-byte = xor_byte x r hx hr
+  bare_byte : bare < 256
+  bare_byte = xor_byte x r hx hr
 
-  bare-nonzero : 0 < bare
-  bare-nonzero = pos_of_ne-zero (λ e. different (sym (xor_zero x) ∙ (rw e at (xor_cancel x r))))
+  bare_nonzero : 0 < bare
+  bare_nonzero = pos_of_ne-zero (λ e. different (sym (xor_zero x) ∙ (rw e at (xor_cancel x r))))
 
-  bare-over-mask : x • inverse r ⊕ 1 ≡ bare • inverse r
-  bare-over-mask = rw (product_xor_left x r (inverse r), product_inverse r pr hr)
+  bare_over_mask : x • inverse r ⊕ 1 ≡ bare • inverse r
+  bare_over_mask = rw (product_xor_left x r (inverse r), product_inverse r pr hr)
 
-  mask-over-bare : inverse (x • inverse r ⊕ 1) ≡ r • inverse bare
-  mask-over-bare = rw bare-over-mask (inverse-quotient bare r bare-nonzero bare-byte pr hr)
+  mask_over_bare : inverse (x • inverse r ⊕ 1) ≡ r • inverse bare
+  mask_over_bare = rw bare_over_mask (inverse_quotient bare r bare_nonzero bare_byte pr hr)
 
-  x-over-bare : r • inverse bare ⊕ 1 ≡ x • inverse bare
-  x-over-bare = rw (← product_inverse bare bare-nonzero bare-byte, product_xor_left x r (inverse bare)) (simp sums)
+  x_over_bare : r • inverse bare ⊕ 1 ≡ x • inverse bare
+  x_over_bare = rw (← product_inverse bare bare_nonzero bare_byte, product_xor_left x r (inverse bare)) (simp sums)
 
   -- the answer times x, and then without x
-  times-x : r • inverse bare ⊕ (1 ⊕ x • r) ≡ x • (inverse bare ⊕ r)
-  times-x = sym (xor_assoc (r • inverse bare) 1 (x • r)) ∙ rw (x-over-bare, product_xor_right x (inverse bare) r)
+  times_x : r • inverse bare ⊕ (1 ⊕ x • r) ≡ x • (inverse bare ⊕ r)
+  times_x = sym (xor_assoc (r • inverse bare) 1 (x • r)) ∙ rw (x_over_bare, product_xor_right x (inverse bare) r)
 
-  pub by-quotients : (inverse (x • inverse r ⊕ 1) ⊕ (1 ⊕ x • r)) • inverse x ≡ masked_inverse x r
+  pub by_quotients : (inverse (x • inverse r ⊕ 1) ⊕ (1 ⊕ x • r)) • inverse x ≡ masked_inverse x r
   unfolding masked_inverse
-  by-quotients =
+  by_quotients =
       let answer : ℕ = inverse bare ⊕ r in
-      rw (mask-over-bare, times-x)
+      rw (mask_over_bare, times_x)
       (product_comm (x • answer) (inverse x) (product_byte x answer hx) (inverse_byte x hx)
-      ∙ product_cancel x answer px hx (xor_byte (inverse bare) r (inverse_byte bare bare-byte) hr))
+      ∙ product_cancel x answer px hx (xor_byte (inverse bare) r (inverse_byte bare bare_byte) hr))

@@ -38,8 +38,8 @@ masked_inverse_unique κs args exit x y p q = p ∙ sym q
 pub convert_unique : UniqueWriting convert.Post (λ κs e. e.1.0.now)
 convert_unique κs args e f x y p q = both x y _ _ _ p q
 
-pub mask-count_unique : Unique mask-count.Post
-mask-count_unique κs args exit x y p q = valued x y _ p q
+pub mask_count_unique : Unique mask-count.Post
+mask_count_unique κs args exit x y p q = valued x y _ p q
 
 pub triples_unique : Unique triples.Post
 triples_unique κs args exit x y p q = p ∙ sym q

@@ -1,5 +1,7 @@
 // What stands beside the runs: the fitness test and the report of a mask table, masked inversion, the sorter of replies and the
 // converter of what early modules stored. No run can be reached from here, and none needs it.
+#![tactic(auto)]
+
 mod count;
 mod fit;
 mod host;

@@ -35,20 +35,20 @@ module _ (i : ℕ) (pos : 0 < i) (s : List ℕ) (long : 8 * i + 8 ≤ length s) 
   abbrev mid : List ℕ
   mid = take (8 * i - 8) (drop 8 s)
 
-  mid-size : length mid ≡ 8 * i - 8
-  mid-size = length-take-le (8 * i - 8) (drop 8 s) (rw length-drop (omega arith))
+  mid_size : length mid ≡ 8 * i - 8
+  mid_size = length-take-le (8 * i - 8) (drop 8 s) (rw length-drop (omega arith))
 
   abbrev rest : List ℕ
   rest = drop (8 * i + 8) s
 
-  pub value-size : length (value i s) ≡ 8
+  pub value_size : length (value i s) ≡ 8
   unfolding value
-  value-size = length-take-le 8 (drop (8 * i) s) (rw length-drop (omega arith))
+  value_size = length-take-le 8 (drop (8 * i) s) (rw length-drop (omega arith))
 
   -- put back as it was
-  pub with-own : with_values i (take 8 s) (value i s) s ≡ s
+  pub with_own : with_values i (take 8 s) (value i s) s ≡ s
   unfolding with_values value
-  with-own =
+  with_own =
       let e : drop (8 * i + 8) s ≡ drop 8 (drop (8 * i) s) = sym (drop-drop 8 (8 * i) s) in
       let n : 8 + (8 * i - 8) ≡ 8 * i = omega arith in
       let d : drop (8 * i) s ≡ drop (8 * i - 8) (drop 8 s) = sym (drop-drop (8 * i - 8) 8 s ∙ ap (λ (k : ℕ). drop k s) n) in
@@ -67,18 +67,18 @@ module _ (i : ℕ) (pos : 0 < i) (s : List ℕ) (long : 8 * i + 8 ≤ length s) 
 
     pub with_size : length after ≡ length s
     unfolding with_values
-    with_size = simp (length-append, la, lr, mid-size, length-drop) (omega arith)
+    with_size = simp (length-append, la, lr, mid_size, length-drop) (omega arith)
 
     pub with_first : take 8 after ≡ a
     with_first = ap (take 8) pieces ∙ take_at a (mid ++ (r ++ rest)) 8 la
 
-    after-mid : take (8 * i - 8) (drop 8 after) ≡ mid
-    after-mid =
+    after_mid : take (8 * i - 8) (drop 8 after) ≡ mid
+    after_mid =
         ap (λ (l : List ℕ). take (8 * i - 8) (drop 8 l)) pieces ∙ ap (take (8 * i - 8)) (drop_at a (mid ++ (r ++ rest)) 8 la)
-        ∙ take_at mid (r ++ rest) (8 * i - 8) mid-size
+        ∙ take_at mid (r ++ rest) (8 * i - 8) mid_size
 
     head_size : length (a ++ mid) ≡ 8 * i
-    head_size = length-append a mid ∙ ap₂ ◌+◌ la mid-size ∙ omega arith
+    head_size = length-append a mid ∙ ap₂ ◌+◌ la mid_size ∙ omega arith
 
     pub with_value : value i after ≡ r
     unfolding value with_values
@@ -90,6 +90,6 @@ module _ (i : ℕ) (pos : 0 < i) (s : List ℕ) (long : 8 * i + 8 ≤ length s) 
     unfolding with_values
     after-rest = drop_at (a ++ mid ++ r) rest (8 * i + 8) (length-append (a ++ mid) r ∙ ap₂ ◌+◌ head_size lr)
 
-    pub with-again : (a' r' : List ℕ) → with_values i a' r' after ≡ with_values i a' r' s
+    pub with_again : (a' r' : List ℕ) → with_values i a' r' after ≡ with_values i a' r' s
     unfolding with_values
-    with-again a' r' = ap₂ (λ (m z : List ℕ). a' ++ m ++ r' ++ z) after-mid after-rest
+    with_again a' r' = ap₂ (λ (m z : List ℕ). a' ++ m ++ r' ++ z) after_mid after-rest

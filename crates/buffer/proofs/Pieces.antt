@@ -75,15 +75,15 @@ second_part t b = refl
 
 -- a step keeps a buffer's length, over any codebook of sixteen bytes
 module _ (E : List ℕ → List ℕ) (size : (b : List ℕ) → length (E b) ≡ 16) (i t : ℕ) (s : List ℕ) (pos : 0 < i) (long : 8 * i + 8 ≤ length s) where
-  pub step-long : length (wrap_step E i t s) ≡ length s
+  pub step_long : length (wrap_step E i t s) ≡ length s
   unfolding wrap_step
-  step-long =
+  step_long =
       let b : List ℕ = E (take 8 s ++ value i s) in
       with_size i pos s long (counted t (take 8 b)) (drop 8 b) (counted_size t (take 8 b)) (length-drop 8 b ∙ rw (size (take 8 s ++ value i s)))
 
-  pub unstep-long : length (unwrap_step E i t s) ≡ length s
+  pub unstep_long : length (unwrap_step E i t s) ≡ length s
   unfolding unwrap_step
-  unstep-long =
+  unstep_long =
       let b : List ℕ = E (counted t (take 8 s) ++ value i s) in
       let l : length b ≡ 16 = size (counted t (take 8 s) ++ value i s) in
       with_size i pos s long (take 8 b) (drop 8 b) (length-take-le 8 b (omega (arith, l))) (length-drop 8 b ∙ rw l)

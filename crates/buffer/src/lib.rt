@@ -1,4 +1,6 @@
 // The buffer of key wrap, RFC 3394: its register A and its values R[i], and what is done with them without an engine.
+#![tactic(auto)]
+
 mod ends;
 mod values;
 

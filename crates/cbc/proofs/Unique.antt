@@ -12,5 +12,5 @@ cbc_unique κs args e f x y p q = (refl, p ∙ sym q)
 pub copy_unique : UniqueWriting copy.Post (λ κs e. e.1.0.now)
 copy_unique κs args e f x y p q = (refl, p ∙ sym q)
 
-pub sixteen-at_unique : Unique sixteen-at.Post
-sixteen-at_unique κs args exit x y p q = p ∙ sym q
+pub sixteen_at_unique : Unique sixteen-at.Post
+sixteen_at_unique κs args exit x y p q = p ∙ sym q

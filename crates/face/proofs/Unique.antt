@@ -95,8 +95,8 @@ tower_box_unique κs args exit x y p q = p ∙ sym q
 pub fitness_unique : Unique fitness.Post
 fitness_unique κs args exit x y p q = p ∙ sym q
 
-pub mask-count_unique : Unique mask-count.Post
-mask-count_unique κs args exit x y p q = p ∙ sym q
+pub mask_count_unique : Unique mask-count.Post
+mask_count_unique κs args exit x y p q = p ∙ sym q
 
 pub read_sheet_unique : UniqueWriting read-sheet.Post (λ κs e. e.1.0.now)
 read_sheet_unique κs args e f x y p q = both x y _ _ _ p q

@@ -1,5 +1,7 @@
 // The C face: each public call of the two engines under its C name, with the call's own promise. A slice is a pointer and then a
 // size_t there; a reply number with a value beside it is one number, number * 256 + value.
+#![tactic(auto)]
+
 ghost use Rattle.std.specs.Prelude.{◌≡◌};
 ghost use Rattle.aes.specs.Field.{◌•◌, inverse};
 ghost use Rattle.aes.specs.Box.{s_box};

@@ -43,8 +43,8 @@ same_start x y b p l h k =
     let first : x.2.0 ≡ y.2.0 = h.2 ∙ sym k.2 in
     λ i. record { 0 = one i; 1 = record { 0 = offsets i }; 2 = record { 0 = first i } }
 
-pub start-one_unique : Unique start-one.Post
-start-one_unique κs args exit x y p q = same_start x y _ _ _ p q
+pub start_one_unique : Unique start-one.Post
+start_one_unique κs args exit x y p q = same_start x y _ _ _ p q
 
 pub start_lent_unique : Unique start-lent.Post
 start_lent_unique κs args exit x y p q = same_start x y _ _ _ p q

@@ -1,4 +1,6 @@
 // Under the programs of vectors: the lines that they read, and the tables that they print. No engine stands on it.
+#![tactic(auto)]
+
 pub mod c3;
 pub mod counts;
 pub mod input;

@@ -14,7 +14,7 @@ use Rattle.aes.specs.State.{at}
 use Rattle.aes.specs.Reply.{refusal, scheduled}
 use Rattle.aes.specs.Byte.{below}
 use Rattle.aes.proofs.Below.{below_all}
-use Rattle.aes.proofs.Replies.{AllHold, telling, holds-done, all_hold, is_true}
+use Rattle.aes.proofs.Replies.{AllHold, telling, holds_done, all_hold, is_true}
 use Rattle.masks.specs.Mask.{one, in_row}
 use Rattle.masked.specs.Calls.{published_checks, block_at, blocks_checks, encrypt_published_of}
 use Rattle.starts.specs.Each.{in_turn}
@@ -60,4 +60,4 @@ pub as_single : {w b out offsets : List ℕ} {d form : ℕ} → Passed w b out o
     ≡ in_row (λ k. (encrypt_published_of w (block_at k b) (block_at k out) (one (at offsets k)) d form).1) (length b / 16)
 as_single {w} {b} {out} {offsets} {d} {form} p =
     rw p.blocks
-    (row_same _ _ (length offsets) (λ k lt. sym (ap (λ (r : ℕ × List ℕ). r.1) (holds-done (block_at k out) _ _ (p.alone k lt)))))
+    (row_same _ _ (length offsets) (λ k lt. sym (ap (λ (r : ℕ × List ℕ). r.1) (holds_done (block_at k out) _ _ (p.alone k lt)))))

@@ -12,11 +12,11 @@ use Rattle.aes.specs.State.{at}
 use Rattle.aes.specs.Key.{rounds_of}
 use Rattle.aes.proofs.Below.{under}
 use Rattle.aes.proofs.Schedule.{full}
-use Rattle.aes.proofs.Replies.{AllHold, telling, all_hold, holds-done, is_true}
+use Rattle.aes.proofs.Replies.{AllHold, telling, all_hold, holds_done, is_true}
 use Rattle.masks.specs.Mask.{one}
 use Rattle.lent.specs.declared.given.Start.{Start}
 use Rattle.lent.specs.Started.{is_one, record_of, Begun}
-use Rattle.lent.proofs.Begun.{Low, begun-lent, record-lent, begun-one, record-one}
+use Rattle.lent.proofs.Begun.{Low, begun_lent, record_lent, begun_one, record_one}
 use Rattle.masked.specs.Calls.{checks, published_checks, record_checks, one_checks}
 
 -- a check that holds is as none, and so is one that was made before
@@ -111,34 +111,34 @@ abbrev pub FromLent : Start → List ℕ → Type 0
 FromLent s v = (s.0 ≡ is_one v) × (s.1.0 ≡ cond (is_one v) (one 0) v) × (s.2.0 ≡ cond (is_one v) (at v 0 % 16) 0)
 
 answered : (cs : List Check) → T (telling cs) → (out : List ℕ) (f : List ℕ → List ℕ) {r : ℕ} {p v x : List ℕ} → r ≡ refusal cs → r ≡ 0 → p ≡ v → x ≡ f p → (0, x) ≡ answer cs out (f v)
-answered cs t out f told e start done = (λ i. (0, (done ∙ ap f start) i)) ∙ sym (holds-done out _ cs (all_hold cs t (sym told ∙ e)))
+answered cs t out f told e start done = (λ i. (0, (done ∙ ap f start) i)) ∙ sym (holds_done out _ cs (all_hold cs t (sym told ∙ e)))
 
 -- of one block
 module _ (w b out M v : List ℕ) (d form : ℕ) {r : ℕ} (told : r ≡ refusal (checks w b out M v d form)) (e : r ≡ 0) (s : Start) (from : FromLent s v) where
-  pub block-lent : (scheduled (length w) ≡ true) × (length b ≡ 16) × (length out ≡ 16) × Begun s × (length M ≡ 16)
-  block-lent = let z = sizes w b out M v d form told e in (z.schedule, z.input, z.output, begun-lent s v from, z.masks)
+  pub block_lent : (scheduled (length w) ≡ true) × (length b ≡ 16) × (length out ≡ 16) × Begun s × (length M ≡ 16)
+  block_lent = let z = sizes w b out M v d form told e in (z.schedule, z.input, z.output, begun_lent s v from, z.masks)
 
-  pub block-answer : (f : List ℕ → List ℕ) {x : List ℕ} → x ≡ f (record_of s) → (0, x) ≡ answer (checks w b out M v d form) out (f v)
+  pub block_answer : (f : List ℕ → List ℕ) {x : List ℕ} → x ≡ f (record_of s) → (0, x) ≡ answer (checks w b out M v d form) out (f v)
   unfolding telling
-  block-answer f = answered (checks w b out M v d form) tt out f told e (record-lent s v from (sizes w b out M v d form told e).offsets)
+  block_answer f = answered (checks w b out M v d form) tt out f told e (record_lent s v from (sizes w b out M v d form told e).offsets)
 
 -- of a record
 module _ (size : ℕ) (w b M v : List ℕ) (d : ℕ) (states : List ℕ) {r : ℕ} (told : r ≡ refusal (record_checks size w b M v d states)) (e : r ≡ 0) (s : Start) (from : FromLent s v) where
-  pub states-lent : (scheduled (length w) ≡ true) × (length b ≡ 16) × (length states ≡ size) × Begun s × (length M ≡ 16)
-  states-lent = let z = record_sizes size w b M v d states told e in (z.schedule, z.input, z.room, begun-lent s v from, z.masks)
+  pub states_lent : (scheduled (length w) ≡ true) × (length b ≡ 16) × (length states ≡ size) × Begun s × (length M ≡ 16)
+  states_lent = let z = record_sizes size w b M v d states told e in (z.schedule, z.input, z.room, begun_lent s v from, z.masks)
 
-  pub states-answer : (f : List ℕ → List ℕ) {x : List ℕ} → x ≡ f (record_of s) → (0, x) ≡ answer (record_checks size w b M v d states) states (f v)
+  pub states_answer : (f : List ℕ → List ℕ) {x : List ℕ} → x ≡ f (record_of s) → (0, x) ≡ answer (record_checks size w b M v d states) states (f v)
   unfolding telling
-  states-answer f = answered (record_checks size w b M v d states) tt states f told e (record-lent s v from (record_sizes size w b M v d states told e).offsets)
+  states_answer f = answered (record_checks size w b M v d states) tt states f told e (record_lent s v from (record_sizes size w b M v d states told e).offsets)
 
 -- with one offset
 module _ (w b out : List ℕ) (o : ℕ) {r : ℕ} (told : r ≡ refusal (one_checks w b out o)) (e : r ≡ 0) (s : Start) (from : (s.0 ≡ true) × (s.1.0 ≡ one 0) × (s.2.0 ≡ o % 16)) where
   pub one_lent : (scheduled (length w) ≡ true) × (length b ≡ 16) × (length out ≡ 16) × Begun s
-  one_lent = let z = one_sizes w b out o told e in ((full w z.0).0, z.1, z.2, begun-one s o from)
+  one_lent = let z = one_sizes w b out o told e in ((full w z.0).0, z.1, z.2, begun_one s o from)
 
   pub one-rounds : rounds_of w ≡ 14
   one-rounds = (full w (one_sizes w b out o told e).0).1
 
   pub one_answer : (f : List ℕ → List ℕ) {x : List ℕ} → x ≡ f (record_of s) → (0, x) ≡ answer (one_checks w b out o) out (f (one o))
   unfolding telling
-  one_answer f = answered (one_checks w b out o) tt out f told e (record-one s o from)
+  one_answer f = answered (one_checks w b out o) tt out f told e (record_one s o from)

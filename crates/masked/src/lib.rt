@@ -1,4 +1,6 @@
 // The upper crate: the masked calls. The module's engine.
+#![tactic(auto)]
+
 mod calls;
 
 pub use calls::decrypt::{decrypt_masked, decrypt_published, record_masked_decryption};

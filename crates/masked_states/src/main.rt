@@ -1,5 +1,7 @@
 // Holds the records of masked runs to the states of FIPS 197 appendix C.3, of standard input, at every offset with every step, and
 // prints how many were run and how many differ.
+#![tactic(auto)]
+
 mod c3;
 mod record;
 mod table;

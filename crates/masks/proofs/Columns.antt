@@ -13,7 +13,7 @@ use Rattle.masks.specs.declared.constants.Kind.{Kind}
 use Rattle.masks.specs.declared.constants.Kind.TheVariants.{Compensation, AfterRows, AfterColumns}
 use Rattle.masks.specs.Kinds.{constant_of}
 use Rattle.masks.specs.Mask.{◌⊞◌, one, label, mask, compensation, after_rows, after_columns, in_row, constants}
-use Rattle.masks.proofs.Row.{row-at, row-size}
+use Rattle.masks.proofs.Row.{row_at_lem, row_size}
 use Rattle.masks.proofs.Counted.{one_at}
 use Rattle.masks.proofs.Stored.{Sized, compensation_sized, rows_sized, columns_sized}
 
@@ -88,12 +88,12 @@ row_byte g y = at (g (y / 16)) (y % 16)
 
 pub row_bytes : (g : ℕ → List ℕ) → ((j : ℕ) → length (g j) ≡ 16) → (n : ℕ) → in_row g n ≡ table (row_byte g) (16 * n)
 row_bytes g h n =
-    let size : length (in_row g n) ≡ 16 * n = row-size g 16 h n in
+    let size : length (in_row g n) ≡ 16 * n = row_size g 16 h n in
     ext_get_or 0 (in_row g n) (table (row_byte g) (16 * n)) (size ∙ sym (table-length (row_byte g) (16 * n)))
     (λ y lt.
     let below : y < 16 * n = omega (arith, lt, size) in
     let e : y ≡ 16 * (y / 16) + y % 16 = omega arith in
-    ap (at (in_row g n)) e ∙ row-at g 16 h n (y / 16) (y % 16) (omega (arith, below)) (omega arith) ∙ sym (table_at (row_byte g) (16 * n) y below))
+    ap (at (in_row g n)) e ∙ row_at_lem g 16 h n (y / 16) (y % 16) (omega (arith, below)) (omega arith) ∙ sym (table_at (row_byte g) (16 * n) y below))
 
 -- a byte of the one at place n
 pub row_byte_lem : (g : ℕ → List ℕ) (n i : ℕ) → i < 16 → at (g n) i ≡ row_byte g (16 * n + i)
@@ -107,8 +107,8 @@ module _ (k : Kind) (M v : List ℕ) where
   sized : (n : ℕ) → length (constant n) ≡ 16
   sized n = kind_sized k (mask M v n)
 
-  pub first-four : in_row constant 4 ≡ table (row_byte constant) 64
-  first-four = row_bytes constant sized 4
+  pub first_four : in_row constant 4 ≡ table (row_byte constant) 64
+  first_four = row_bytes constant sized 4
 
   pub all_sixteen : constants (constant_of k) M v ≡ table (row_byte constant) 256
   unfolding constants

@@ -32,21 +32,21 @@ with_step false other e = e
 
 -- what the checks tell of a sheet and masks that they let pass
 pub record Passed (one : Bool) (sheet masks : List ℕ) : Type 0 where
-  pub sheet-size : length sheet ≡ cond one 21 22
-  pub masks-size : length masks ≡ 16
+  pub sheet_size : length sheet ≡ cond one 21 22
+  pub masks_size : length masks ≡ 16
 
 pub readable : (sheet masks : List ℕ) {r : ℕ} → r ≡ refusal (read_checks sheet masks) → r ≡ 0 → Passed (eqb (version sheet) 1) sheet masks
 unfolding AllHold telling
 readable sheet masks told e =
     let h = all_hold (read_checks sheet masks) tt (sym told ∙ e) in
-    record { sheet-size = eqb→eq (length sheet) _ h.1.1.1.0; masks-size = eqb→eq (length masks) 16 h.1.1.1.1.1.0 }
+    record { sheet_size = eqb→eq (length sheet) _ h.1.1.1.0; masks_size = eqb→eq (length masks) 16 h.1.1.1.1.1.0 }
 
 pub writable : (masks : List ℕ) (step : ℕ) (sheet : List ℕ) {r : ℕ} → r ≡ refusal (is_step step ∷ is_sheet_of step sheet ∷ is_mask_table masks ∷ []) → r ≡ 0
     → Passed (eqb step 1) sheet masks
 unfolding AllHold telling
 writable masks step sheet told e =
     let h = all_hold (is_step step ∷ is_sheet_of step sheet ∷ is_mask_table masks ∷ []) tt (sym told ∙ e) in
-    record { sheet-size = eqb→eq (length sheet) _ h.1.0; masks-size = eqb→eq (length masks) 16 h.1.1.0 }
+    record { sheet_size = eqb→eq (length sheet) _ h.1.0; masks_size = eqb→eq (length masks) 16 h.1.1.0 }
 
 -- a sheet's first five bytes, and the rest
 pub five : (xs : List ℕ) → 5 ≤ length xs → at xs 0 ∷ at xs 1 ∷ at xs 2 ∷ at xs 3 ∷ at xs 4 ∷ drop 5 xs ≡ xs

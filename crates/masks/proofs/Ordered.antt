@@ -15,7 +15,7 @@ use mir.Facts.{and_yes, eqb_no}
 use Rattle.aes.specs.Byte.{table, place, below}
 use Rattle.aes.specs.State.{at, state}
 use Rattle.aes.specs.Reply.{taken}
-use Rattle.aes.proofs.Listed.{Inverted, place-below, place-right, place-only}
+use Rattle.aes.proofs.Listed.{Inverted, place-below, place_right, place_only}
 use Rattle.aes.proofs.Fill.{filled_all}
 use Rattle.aes.proofs.Below.{under}
 use Rattle.masks.specs.Mask.{published, one, mask}
@@ -34,11 +34,11 @@ order_below k h = lit< (under (λ k. ltb (at box_order k) 16) 16 tt k h)
 -- each position has its place in the order, and one place alone
 pub order_place : (p : ℕ) → p < 16 → (place p box_order < 16) × (at box_order (place p box_order) ≡ p)
 unfolding box_order table
-order_place p h = (place-below (at box_order) (λ p. p) 16 permuted p h, place-right (at box_order) (λ p. p) 16 permuted p h)
+order_place p h = (place-below (at box_order) (λ p. p) 16 permuted p h, place_right (at box_order) (λ p. p) 16 permuted p h)
 
 pub order_once : (k : ℕ) → k < 16 → place (at box_order k) box_order ≡ k
 unfolding box_order table
-order_once k h = place-only (at box_order) (λ p. p) 16 permuted k h
+order_once k h = place_only (at box_order) (λ p. p) 16 permuted k h
 
 -- r has sixteen entries, and those at the first k positions of the order are f's
 pub record Called (f : ℕ → ℕ) (k : ℕ) (r : List ℕ) : Type 0 where

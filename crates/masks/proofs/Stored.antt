@@ -12,14 +12,14 @@ use Rattle.aes.proofs.Listed.{table_at, table_same, table-length}
 use Rattle.aes.proofs.Undo.{add_size, state-at}
 use Rattle.masks.specs.Mask.{in_row, one, label, twice, mask, masked_box, masked_boxes, compensation, after_rows, after_columns, constants}
 use Rattle.masks.specs.Order.{boxed_by, boxes_at}
-use Rattle.masks.proofs.Row.{row-at}
+use Rattle.masks.proofs.Row.{row_at_lem}
 use Rattle.masks.proofs.Counted.{one_at}
 
 -- the formula at each entry of the store
 pub box_at : (S : ℕ → ℕ) (M : List ℕ) (d j x : ℕ) → j < 16 → x < 256 → at (masked_boxes S M d) (256 * j + x) ≡ masked_box S M d j x
 unfolding masked_boxes
 box_at S M d j x hj hx =
-    row-at (λ j. table (masked_box S M d j) 256) 256 (λ j. table-length (masked_box S M d j) 256) 16 j x hj hx ∙ table_at (masked_box S M d j) 256 x hx
+    row_at_lem (λ j. table (masked_box S M d j) 256) 256 (λ j. table-length (masked_box S M d j) 256) 16 j x hj hx ∙ table_at (masked_box S M d j) 256 x hx
 
 -- and so what the boxes make of a state of bytes, each byte by the one over it
 pub boxed_is : (S : ℕ → ℕ) (M v : List ℕ) (d k : ℕ) (s : List ℕ) → ((i : ℕ) → at s i < 256)
@@ -58,7 +58,7 @@ columns_sized m = add_size _ _
 -- the state at each place of a row of them, and so the constant at each label
 pub row_state : (f : ℕ → List ℕ) → ((j : ℕ) → length (f j) ≡ 16) → (n k : ℕ) → k < n → round_key (in_row f n) k ≡ f k
 unfolding round_key table
-row_state f h n k lt = table_same (λ i. at (in_row f n) (16 * k + i)) (at (f k)) 16 (λ i. row-at f 16 h n k i lt) ∙ state-at (f k) (h k)
+row_state f h n k lt = table_same (λ i. at (in_row f n) (16 * k + i)) (at (f k)) 16 (λ i. row_at_lem f 16 h n k i lt) ∙ state-at (f k) (h k)
 
 pub constant-at : (f : List ℕ → List ℕ) → Sized f → (M v : List ℕ) (k : ℕ) → k < 16 → round_key (constants f M v) k ≡ f (mask M v k)
 unfolding constants

@@ -141,11 +141,11 @@ module _ (k end : ℕ) (small : k < 16) (whole : end ≡ 256 * k) (sums : table 
   low_digit : k % 16 ≡ k
   low_digit = omega (arith, small)
 
-  no-high : k / 16 ≡ 0
-  no-high = omega (arith, small)
+  no_high : k / 16 ≡ 0
+  no_high = omega (arith, small)
 
-  in-byte : k % 256 ≡ k
-  in-byte = omega (arith, small)
+  in_byte : k % 256 ≡ k
+  in_byte = omega (arith, small)
 
   no_byte : k / 256 ≡ 0
   no_byte = omega (arith, small)
@@ -161,7 +161,7 @@ module _ (k end : ℕ) (small : k < 16) (whole : end ≡ 256 * k) (sums : table 
       let z : ℕ = (q % 16) ⊕ k in
       let hz : z < 16 = xor_lt 4 (q % 16) k (omega arith) small in
       by_nibbles (q ⊕ k) (16 * (q / 16) + z)
-      (high_xor q k ∙ ap (λ (x : ℕ). (q / 16) ⊕ x) no-high ∙ xor_zero (q / 16) ∙ sym (high_of (q / 16) z hz))
+      (high_xor q k ∙ ap (λ (x : ℕ). (q / 16) ⊕ x) no_high ∙ xor_zero (q / 16) ∙ sym (high_of (q / 16) z hz))
       (low_xor q k ∙ ap (λ (x : ℕ). (q % 16) ⊕ x) low_digit ∙ sym (low_of (q / 16) z hz))
       ∙ ap (λ (x : ℕ). 16 * (q / 16) + x) (agree (λ i. i ⊕ k) (partner k) 16 lows (q % 16) (omega arith)) ∙ sym (split q)
 
@@ -173,7 +173,7 @@ module _ (k end : ℕ) (small : k < 16) (whole : end ≡ 256 * k) (sums : table 
       let low : (end + q) % 256 ≡ x = omega (arith, whole) in
       let high : (end + q) / 256 ≡ k + j = omega (arith, whole) in
       ap index (sym (partnered q ∙ e))
-      ∙ ap₂ (◌⊕◌) (xor_mod q k 8 ∙ ap (λ (y : ℕ). x ⊕ y) in-byte) (xor_shr q k 8 ∙ ap (λ (y : ℕ). j ⊕ y) no_byte ∙ xor_zero j)
+      ∙ ap₂ (◌⊕◌) (xor_mod q k 8 ∙ ap (λ (y : ℕ). x ⊕ y) in_byte) (xor_shr q k 8 ∙ ap (λ (y : ℕ). j ⊕ y) no_byte ∙ xor_zero j)
       ∙ xor_assoc x k j
       ∙ sym (ap index (sym s) ∙ ap₂ (◌⊕◌) low (high ∙ agree (λ i. k + i) (λ i. k ⊕ i) k sums j hj))
 

@@ -35,8 +35,8 @@ one_label x y z p q = let e : x.0 ≡ y.0 = p ∙ sym q in λ i. record { 0 = e 
 pub label_make_unique : Unique make.Post
 label_make_unique κs args exit x y p q = one_label x y _ p q
 
-pub label-next_unique : Unique next.Post
-label-next_unique κs args exit x y p q = one_label x y _ p.0 q.0
+pub label_next_unique : Unique next.Post
+label_next_unique κs args exit x y p q = one_label x y _ p.0 q.0
 
 pub label_read_unique : Unique read.Post
 label_read_unique κs args exit x y p q = p ∙ sym q
@@ -80,11 +80,11 @@ compensations_of_unique κs args e f x y p q = (refl, p ∙ sym q)
 pub corrections_of_unique : UniqueWriting {Held = List ℕ × List ℕ} corrections-of.Post (λ κs e. (e.1.0.now, e.1.1.0.now))
 corrections_of_unique κs args e f x y p q = (refl, λ i. ((p.0 ∙ sym q.0) i, (p.1 ∙ sym q.1) i))
 
-pub constants-made_unique : UniqueWriting constants-made.Post (λ κs e. e.1.1.0.now)
-constants-made_unique κs args e f x y p q = (refl, p ∙ sym q)
+pub constants_made_unique : UniqueWriting constants-made.Post (λ κs e. e.1.1.0.now)
+constants_made_unique κs args e f x y p q = (refl, p ∙ sym q)
 
-pub made-inverse_unique : UniqueWriting made-inverse.Post (λ κs e. e.1.1.0.now)
-made-inverse_unique κs args e f x y p q = (refl, p ∙ sym q)
+pub made_inverse_unique : UniqueWriting made-inverse.Post (λ κs e. e.1.1.0.now)
+made_inverse_unique κs args e f x y p q = (refl, p ∙ sym q)
 
 pub made_unique : UniqueWriting made.Post (λ κs e. e.1.1.0.now)
 made_unique κs args e f x y p q = (refl, p ∙ sym q)

@@ -1,4 +1,6 @@
 // The middle crate: sixteen masks, their labels and their sheet, and the boxes and constants that are made of them.
+#![tactic(auto)]
+
 pub mod answers;
 pub mod boxes;
 pub mod constants;

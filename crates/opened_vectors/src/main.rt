@@ -1,5 +1,7 @@
 // Runs the vectors of standard input on the calls of the masked engine that decrypt, at every offset with every step, and prints
 // how many of each source were run and how many differ.
+#![tactic(auto)]
+
 mod calls;
 mod table;
 

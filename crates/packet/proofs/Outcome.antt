@@ -18,19 +18,19 @@ pipe_is pipes p ek en = ek ∙ ap (λ (x : ℕ). place x (table (pid_at pipes) 7
 -- the answers, of which both calls have the first two, scrambling the next three and descrambling the last three
 module _ (p out pipes : List ℕ) (odd : Bool) {k : ℕ} (ek : k ≡ pipe_of pipes p) where
   pub unlisted : (back : Bool) → 6 < k → ◌≡◌ {A = ℕ × List ℕ} (0, p) (answered_of back p out pipes odd)
-  unlisted back lt = by-case back (lt-leb (pipe_of pipes p) 6 (omega (arith, lt, ek)))
+  unlisted back lt = by_case back (lt-leb (pipe_of pipes p) 6 (omega (arith, lt, ek)))
     where
-      by-case : (back : Bool) → is_listed pipes p ≡ false → ◌≡◌ {A = ℕ × List ℕ} (0, p) (answered_of back p out pipes odd)
-      by-case true el = rw el
-      by-case false el = rw el
+      by_case : (back : Bool) → is_listed pipes p ≡ false → ◌≡◌ {A = ℕ × List ℕ} (0, p) (answered_of back p out pipes odd)
+      by_case true el = rw el
+      by_case false el = rw el
 
   module _ (lt : k < 7) where
     listed : is_listed pipes p ≡ true
     listed = le-leb (pipe_of pipes p) 6 (omega (arith, lt, ek))
 
-    pub field-wrong : (back : Bool) → field_right p ≡ false → ◌≡◌ {A = ℕ × List ℕ} (21, out) (answered_of back p out pipes odd)
-    field-wrong true ef = rw (listed, ef)
-    field-wrong false ef = rw (listed, ef)
+    pub field_wrong : (back : Bool) → field_right p ≡ false → ◌≡◌ {A = ℕ × List ℕ} (21, out) (answered_of back p out pipes odd)
+    field_wrong true ef = rw (listed, ef)
+    field_wrong false ef = rw (listed, ef)
 
     module _ (ef : field_right p ≡ true) {n : ℕ} (en : n ≡ scrambling p) where
       pub unclear : (n ≡ 0 → ⊥) → ◌≡◌ {A = ℕ × List ℕ} (23, out) (answered_of false p out pipes odd)
@@ -64,18 +64,18 @@ module _ (p out pipes : List ℕ) (odd : Bool) {k : ℕ} (ek : k ≡ pipe_of pip
 
 -- a payload is long where it starts at 172 or before
 pub near : (n : ℕ) → leb n 172 ≡ leb 16 (188 - n)
-near n = by-case (leb n 172) refl
+near n = by_case (leb n 172) refl
   where
-    by-case : (b : Bool) → leb n 172 ≡ b → leb n 172 ≡ leb 16 (188 - n)
-    by-case true e = e ∙ sym (le-leb 16 (188 - n) (let h = leb→le n 172 (subst T (sym e) tt) in omega (arith, h)))
-    by-case false e = e ∙ sym (lt-leb 16 (188 - n) (let h = nleb→lt n 172 (subst (λ (b : Bool). T (not b)) (sym e) tt) in omega (arith, h)))
+    by_case : (b : Bool) → leb n 172 ≡ b → leb n 172 ≡ leb 16 (188 - n)
+    by_case true e = e ∙ sym (le-leb 16 (188 - n) (let h = leb→le n 172 (subst T (sym e) tt) in omega (arith, h)))
+    by_case false e = e ∙ sym (lt-leb 16 (188 - n) (let h = nleb→lt n 172 (subst (λ (b : Bool). T (not b)) (sym e) tt) in omega (arith, h)))
 
 module _ (p : List ℕ) {g : Bool} (eg : g ≡ long p) where
-  pub long-near : not g ≡ false → start p ≤ 172
-  long-near e = let h = leb→le 16 (188 - start p) (subst T (sym (sym eg ∙ not-false g e)) tt) in omega (arith, h)
+  pub long_near : not g ≡ false → start p ≤ 172
+  long_near e = let h = leb→le 16 (188 - start p) (subst T (sym (sym eg ∙ not-false g e)) tt) in omega (arith, h)
 
-  pub opened-near : (n : ℕ) → not (leb 2 n && g) ≡ false → start p ≤ 172
-  opened-near n e = long-near (both (leb 2 n) g e)
+  pub opened_near : (n : ℕ) → not (leb 2 n && g) ≡ false → start p ≤ 172
+  opened_near n e = long_near (both (leb 2 n) g e)
     where
       both : (a b : Bool) → not (a && b) ≡ false → not b ≡ false
       both true b e = e

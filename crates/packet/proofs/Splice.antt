@@ -40,11 +40,11 @@ laid bits (suc (suc (suc (suc s)))) m body (a ∷ b ∷ c ∷ d ∷ p) hs h =
 -- the payload starts behind the header
 pub low : (p : List ℕ) → 4 ≤ start p
 unfolding start
-low p = by-case (eqb (adaptation p) 1)
+low p = by_case (eqb (adaptation p) 1)
   where
-    by-case : (b : Bool) → 4 ≤ cond b 4 (5 + at p 4)
-    by-case true = lit≤ tt
-    by-case false = omega arith
+    by_case : (b : Bool) → 4 ≤ cond b 4 (5 + at p 4)
+    by_case true = lit≤ tt
+    by_case false = omega arith
 
 -- where the schedules lie
 pub inside : (k : ℕ) (odd : Bool) → k < 7 → 498 * k + cond odd 242 2 + 240 ≤ 3486

@@ -1,5 +1,7 @@
 // Runs the vectors of standard input on the calls of the packet scrambler, each in many packets, and prints how many packets of each
 // source were run and how many differ.
+#![tactic(auto)]
+
 mod buffers;
 mod calls;
 mod message;

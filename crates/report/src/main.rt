@@ -1,5 +1,7 @@
 // The report of a mask table, before a sheet is shipped: one sheet on standard input; a line for each row, byte and triple of bits, and
 // a last one, where all of them could be written. Where the reader refuses the sheet, its number alone.
+#![tactic(auto)]
+
 ghost use Rattle.std.specs.Prelude.{◌+◌, ◌*◌, ◌≤◌, ◌<◌, length};
 
 use libc::{STDIN_FILENO, STDOUT_FILENO};

@@ -48,19 +48,19 @@ module _ (n : ℕ) (w b rows columns p : List ℕ) (d m l k : ℕ) (s : List ℕ
       let k-is : k ≡ n - 0 = omega (arith, e, round) in
       kept (λ other. omega arith) (λ o end h. rw e (ht ∙ ap (λ (j : ℕ). s ⊞ round_key w j) k-is))
 
-  pub unshifted-done : {t : List ℕ} {l' k' : ℕ} {part : List ℕ} → m % 6 ≡ 1 → t ≡ inv_shift_rows s → l' ≡ l → k' ≡ k → part ≡ t → Done t l' k' part
+  pub unshifted_done : {t : List ℕ} {l' k' : ℕ} {part : List ℕ} → m % 6 ≡ 1 → t ≡ inv_shift_rows s → l' ≡ l → k' ≡ k → part ≡ t → Done t l' k' part
   unfolding back_steps
-  unshifted-done e ht = kept (λ other. omega arith) (λ o end h. rw (at_point m 1 e) ht)
+  unshifted_done e ht = kept (λ other. omega arith) (λ o end h. rw (at_point m 1 e) ht)
 
-  pub corrected-done : {t : List ℕ} {l' k' : ℕ} {part : List ℕ} → m % 6 ≡ 2 → t ≡ s ⊞ round_key rows l → l' ≡ l → k' ≡ k → part ≡ t → Done t l' k' part
+  pub corrected_done : {t : List ℕ} {l' k' : ℕ} {part : List ℕ} → m % 6 ≡ 2 → t ≡ s ⊞ round_key rows l → l' ≡ l → k' ≡ k → part ≡ t → Done t l' k' part
   unfolding back_steps
-  corrected-done e ht =
+  corrected_done e ht =
       let r-is : n - k ≡ m / 6 = omega (arith, e, round) in
       kept (λ other. omega arith) (λ o end h. rw (at_point m 2 e) (ht ∙ ap (λ (j : ℕ). s ⊞ round_key rows j) (h ∙ ap (λ (j : ℕ). (o + d * j) % 16) r-is)))
 
-  pub unboxed-done : {t : List ℕ} {l' : ℕ} (k' : ℕ) {part : List ℕ} → m % 6 ≡ 3 → t ≡ boxed_by b (boxes_at p l) s → l' ≡ (l + d) % 16 → k' + 1 ≡ k → part ≡ t → Done t l' k' part
+  pub unboxed_done : {t : List ℕ} {l' : ℕ} (k' : ℕ) {part : List ℕ} → m % 6 ≡ 3 → t ≡ boxed_by b (boxes_at p l) s → l' ≡ (l + d) % 16 → k' + 1 ≡ k → part ≡ t → Done t l' k' part
   unfolding back_steps
-  unboxed-done {t} {l'} k' e ht hl hk hp =
+  unboxed_done {t} {l'} k' e ht hl hk hp =
       let r-is : n - k ≡ m / 6 = omega (arith, e, round) in
       let next : n - k' ≡ n - k + 1 = omega (arith, e, round, hk) in (
         λ o end h. (
@@ -71,18 +71,18 @@ module _ (n : ℕ) (w b rows columns p : List ℕ) (d m l k : ℕ) (s : List ℕ
         hp,
       )
 
-  pub keyed-done : {t : List ℕ} {l' k' : ℕ} {part : List ℕ} → m % 6 ≡ 4 → t ≡ s ⊞ round_key w k → l' ≡ l → k' ≡ k → part ≡ t → Done t l' k' part
+  pub keyed_done : {t : List ℕ} {l' k' : ℕ} {part : List ℕ} → m % 6 ≡ 4 → t ≡ s ⊞ round_key w k → l' ≡ l → k' ≡ k → part ≡ t → Done t l' k' part
   unfolding back_steps
-  keyed-done e ht =
+  keyed_done e ht =
       let k-is : k ≡ n - suc (m / 6) = omega (arith, e, round) in
       kept (λ other. omega arith) (λ o end h. rw (at_point m 4 e) (ht ∙ ap (λ (j : ℕ). s ⊞ round_key w j) k-is))
 
-  pub unmixed-done : {t : List ℕ} {l' k' : ℕ} {part : List ℕ} → m % 6 ≡ 5 → t ≡ inv_mix_columns s → l' ≡ l → k' ≡ k → part ≡ t → Done t l' k' part
+  pub unmixed_done : {t : List ℕ} {l' k' : ℕ} {part : List ℕ} → m % 6 ≡ 5 → t ≡ inv_mix_columns s → l' ≡ l → k' ≡ k → part ≡ t → Done t l' k' part
   unfolding back_steps
-  unmixed-done e ht = kept (λ other. omega arith) (λ o end h. rw (at_point m 5 e) ht)
+  unmixed_done e ht = kept (λ other. omega arith) (λ o end h. rw (at_point m 5 e) ht)
 
-  pub restored-done : {t : List ℕ} {l' k' : ℕ} {part : List ℕ} → m % 6 ≡ 0 → (m ≡ 0 → ⊥) → t ≡ s ⊞ round_key columns l → l' ≡ l → k' ≡ k → part ≡ t → Done t l' k' part
+  pub restored_done : {t : List ℕ} {l' k' : ℕ} {part : List ℕ} → m % 6 ≡ 0 → (m ≡ 0 → ⊥) → t ≡ s ⊞ round_key columns l → l' ≡ l → k' ≡ k → part ≡ t → Done t l' k' part
   unfolding back_steps
-  restored-done e other ht =
+  restored_done e other ht =
       let r-is : n - k ≡ suc (m / 6 - 1) = omega (arith, e, other, round) in
       kept (λ three. omega arith) (λ o end h. rw (at_restored m e other) (ht ∙ ap (λ (j : ℕ). s ⊞ round_key columns j) (h ∙ ap (λ (j : ℕ). (o + d * j) % 16) r-is)))

@@ -37,23 +37,23 @@ six_more x = simp append_assoc
 
 -- which they are in round r
 module _ (r x : ℕ) (e : x ≡ 6 * r + 1) where
-  in-round : (m k : ℕ) → m / 6 ≡ r → m % 6 ≡ k → back_point_after m ≡ get_or (around r) k block
-  in-round m k hr hk = at_point m k hk ∙ ap (λ (j : ℕ). get_or (around j) k block) hr
+  in_round : (m k : ℕ) → m / 6 ≡ r → m % 6 ≡ k → back_point_after m ≡ get_or (around r) k block
+  in_round m k hr hk = at_point m k hk ∙ ap (λ (j : ℕ). get_or (around j) k block) hr
 
   first : back_point_after x ≡ unshifted r
-  first = in-round x 1 (omega (arith, e)) (omega (arith, e))
+  first = in_round x 1 (omega (arith, e)) (omega (arith, e))
 
   second : back_point_after (suc x) ≡ corrected r
-  second = in-round (suc x) 2 (omega (arith, e)) (omega (arith, e))
+  second = in_round (suc x) 2 (omega (arith, e)) (omega (arith, e))
 
   third : back_point_after (suc (suc x)) ≡ unboxed r
-  third = in-round (suc (suc x)) 3 (omega (arith, e)) (omega (arith, e))
+  third = in_round (suc (suc x)) 3 (omega (arith, e)) (omega (arith, e))
 
   fourth : back_point_after (suc (suc (suc x))) ≡ keyed (suc r)
-  fourth = in-round (suc (suc (suc x))) 4 (omega (arith, e)) (omega (arith, e))
+  fourth = in_round (suc (suc (suc x))) 4 (omega (arith, e)) (omega (arith, e))
 
   fifth : back_point_after (suc (suc (suc (suc x)))) ≡ unmixed r
-  fifth = in-round (suc (suc (suc (suc x)))) 5 (omega (arith, e)) (omega (arith, e))
+  fifth = in_round (suc (suc (suc (suc x)))) 5 (omega (arith, e)) (omega (arith, e))
 
   sixth : back_point_after (suc (suc (suc (suc (suc x))))) ≡ restored r
   sixth = at_restored (suc (suc (suc (suc (suc x))))) (omega (arith, e)) (λ z. omega (arith, e, z)) ∙ ap restored (omega (arith, e))

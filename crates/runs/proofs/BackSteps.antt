@@ -31,21 +31,21 @@ module _ {M w : List ℕ} (hM : Bytes 16 M) {size : ℕ} (hw : Bytes size w) (p 
   unfolding mask
   mask-bytes k = state-bytes (λ i. at M (label v k i)) (λ i. hM.byte _)
 
-  box-byte : (j x : ℕ) → x < 256 → masked_box inv_s_box M d j x < 256
+  box_byte : (j x : ℕ) → x < 256 → masked_box inv_s_box M d j x < 256
   unfolding masked_box
-  box-byte j x h =
+  box_byte j x h =
       xor_byte (inv_s_box (x ⊕ at M (j % 16))) (at M ((j + d) % 16)) (inv_s_box_byte (x ⊕ at M (j % 16)) (xor_byte x (at M (j % 16)) h (hM.byte (j % 16)))) (hM.byte ((j + d) % 16))
 
-  back-bytes : (q : Back) (s : List ℕ) → Bytes 16 s → Bytes 16 (uncovering n M v d w q s)
+  back_bytes : (q : Back) (s : List ℕ) → Bytes 16 s → Bytes 16 (uncovering n M v d w q s)
   unfolding uncovering after_rows after_columns
-  back-bytes block s h = add_bytes h (mask-bytes 0)
-  back-bytes (keyed r) s h = add_bytes h (key_bytes size w hw (n - r))
-  back-bytes (unshifted r) s h = inv_shift_bytes h
-  back-bytes (corrected r) s h = add_bytes h (add_bytes (mask-bytes (d * r)) (inv_shift_bytes (mask-bytes (d * r))))
-  back-bytes (unboxed r) s h = state-bytes (λ i. masked_box inv_s_box M d (label v (d * r) i) (at s i)) (λ i. box-byte (label v (d * r) i) (at s i) (h.byte i))
-  back-bytes (unmixed r) s h = inv_mix_bytes s
-  back-bytes (restored r) s h = add_bytes h (add_bytes (mask-bytes (d * suc r)) (inv_mix_bytes (mask M v (d * suc r))))
-  back-bytes (uncovered r) s h = add_bytes h (mask-bytes (d * suc r))
+  back_bytes block s h = add_bytes h (mask-bytes 0)
+  back_bytes (keyed r) s h = add_bytes h (key_bytes size w hw (n - r))
+  back_bytes (unshifted r) s h = inv_shift_bytes h
+  back_bytes (corrected r) s h = add_bytes h (add_bytes (mask-bytes (d * r)) (inv_shift_bytes (mask-bytes (d * r))))
+  back_bytes (unboxed r) s h = state-bytes (λ i. masked_box inv_s_box M d (label v (d * r) i) (at s i)) (λ i. box_byte (label v (d * r) i) (at s i) (h.byte i))
+  back_bytes (unmixed r) s h = inv_mix_bytes s
+  back_bytes (restored r) s h = add_bytes h (add_bytes (mask-bytes (d * suc r)) (inv_mix_bytes (mask M v (d * suc r))))
+  back_bytes (uncovered r) s h = add_bytes h (mask-bytes (d * suc r))
 
   -- the steps as a run of n rounds has them
   abbrev lent : Back → List ℕ → List ℕ
@@ -74,22 +74,22 @@ module _ {M w : List ℕ} (hM : Bytes 16 M) {size : ℕ} (hw : Bytes size w) (p 
       ap (λ (k : List ℕ). s ⊞ k) (constant-at after_columns columns_sized M p ((o + d * suc r) % 16) (omega arith) ∙ ap after_columns (mask_turn M p o (d * suc r)))
   lent_is (uncovered r) t s h = ap (λ (m : List ℕ). s ⊞ m) (mask_turn M p o (d * n) ∙ ap (λ (k : ℕ). mask M v (d * k)) (sym (eqb→eq (suc r) n t)))
 
-  sixes-due : (k : ℕ) → T (all_due due (sixes k))
+  sixes_due : (k : ℕ) → T (all_due due (sixes k))
   unfolding sixes all_due due
-  sixes-due zero = tt
-  sixes-due (suc k) = due_append due (sixes k) (six k) (sixes-due k) tt
+  sixes_due zero = tt
+  sixes_due (suc k) = due_append due (sixes k) (six k) (sixes_due k) tt
 
-  closing-due : (k : ℕ) → suc k ≡ n → T (all_due due (closing k))
+  closing_due : (k : ℕ) → suc k ≡ n → T (all_due due (closing k))
   unfolding all_due due
-  closing-due k e = both (eqb (suc k) n) true (subst T (sym (eq-eqb (suc k) n e)) tt) tt
+  closing_due k e = both (eqb (suc k) n) true (subst T (sym (eq-eqb (suc k) n e)) tt) tt
 
   -- the points behind the covered block
   abbrev behind : List Back
   behind = keyed 0 ∷ (sixes (n - 1) ++ closing (n - 1))
 
-  behind-due : 0 < n → T (all_due due behind)
+  behind_due : 0 < n → T (all_due due behind)
   unfolding all_due due
-  behind-due pos = due_append due (sixes (n - 1)) (closing (n - 1)) (sixes-due (n - 1)) (closing-due (n - 1) (omega (arith, pos)))
+  behind_due pos = due_append due (sixes (n - 1)) (closing (n - 1)) (sixes_due (n - 1)) (closing_due (n - 1) (omega (arith, pos)))
 
   -- what a run of the steps records, where it is lent the right tables and starts from the covered block
   pub lent_back : {input : List ℕ} → Bytes 16 input → 0 < n → (s b rows columns end : List ℕ) → s ≡ input ⊞ mask M p o → b ≡ masked_boxes inv_s_box M d
@@ -100,4 +100,4 @@ module _ {M w : List ℕ} (hM : Bytes 16 M) {size : ℕ} (hw : Bytes size w) (p 
       let start : s ≡ input ⊞ mask M v 0 = es ∙ ap (λ (m : List ℕ). input ⊞ m) (mask_first M p o) in
       (λ i. run (back_steps n w (eb i) (er i) (ec i) p o d (ee i)) (start i) (back_points n))
       ∙ ap (λ (u : List (List ℕ)). (input ⊞ mask M v 0) ∷ u)
-      (run_is lent (uncovering n M v d w) due lent_is back-bytes behind (behind-due pos) (input ⊞ mask M v 0) (add_bytes h (mask-bytes 0)))
+      (run_is lent (uncovering n M v d w) due lent_is back_bytes behind (behind_due pos) (input ⊞ mask M v 0) (add_bytes h (mask-bytes 0)))

@@ -15,8 +15,8 @@ module _ (o d : ℕ) where
   pub first_label : (l r : ℕ) → o < 16 → l ≡ o → r ≡ 0 → At l r
   first_label l r lt hl hr = rw (hr, mul-zero) (omega (arith, lt, hl))
 
-  pub same-label : (l r l' r' : ℕ) → l' ≡ l → r' ≡ r → At l r → At l' r'
-  same-label l r l' r' hl hr h = hl ∙ h ∙ ap (λ (k : ℕ). (o + d * k) % 16) (sym hr)
+  pub same_label : (l r l' r' : ℕ) → l' ≡ l → r' ≡ r → At l r → At l' r'
+  same_label l r l' r' hl hr h = hl ∙ h ∙ ap (λ (k : ℕ). (o + d * k) % 16) (sym hr)
 
   -- a step on
   on : (k l l' : ℕ) → l' ≡ (l + d) % 16 → l ≡ (o + k) % 16 → l' ≡ (o + (k + d)) % 16

@@ -16,7 +16,7 @@ use Rattle.aes.proofs.Xor.{xor_byte}
 use Rattle.aes.proofs.Boxes.{s_box_byte}
 use Rattle.aes.proofs.Undo.{state-bytes, add_bytes, key_bytes, shift_bytes, mix_bytes}
 use Rattle.aes.proofs.Part.{back}
-use Rattle.aes.proofs.Written.{Sized, Written, turns, recorded_one, written-turn, rounds_all, run-append, last-append}
+use Rattle.aes.proofs.Written.{Sized, Written, turns, recorded_one, written_turn, rounds_all, run-append, last-append}
 use Rattle.masks.specs.Mask.{◌⊞◌, label, advanced, mask, masked_box, masked_boxes, compensation, constants}
 use Rattle.runs.specs.Run.{covered, masked_record}
 use Rattle.masks.specs.Order.{boxed_by}
@@ -96,7 +96,7 @@ uncovering-last n pos w b c p o d end s =
 pub after-written : {f : Point → List ℕ → List ℕ} → Sized f → {s t t' xs ys : List ℕ} → length s ≡ 16 → (n m : ℕ) → m < 5 * n
     → Written f s (80 * n + 16) (block ∷ turns (after n) m) t xs → t' ≡ f (point_after n m) t → ys ≡ t'
     → Written f s (80 * n + 16) (block ∷ turns (after n) (m + 1)) t' (back xs (16 * m + 16) (16 * m + 16 + 16 - (16 * m + 16)) ys)
-after-written size l n m lt w et ey = written-turn size l block (after n) 16 (λ i. refl) m (omega (arith, lt)) w (recorded_one et ey)
+after-written size l n m lt w et ey = written_turn size l block (after n) 16 (λ i. refl) m (omega (arith, lt)) w (recorded_one et ey)
 
 module _ {M w : List ℕ} {size : ℕ} (hM : Bytes 16 M) (hw : Bytes size w) (p : List ℕ) (o d n : ℕ) where
   -- the record of a run that begins o labels on from the offsets p
@@ -107,9 +107,9 @@ module _ {M w : List ℕ} {size : ℕ} (hM : Bytes 16 M) (hw : Bytes size w) (p 
   unfolding mask
   mask-bytes k = state-bytes (λ i. at M (label v k i)) (λ i. hM.byte _)
 
-  box-byte : (j x : ℕ) → x < 256 → masked_box s_box M d j x < 256
+  box_byte : (j x : ℕ) → x < 256 → masked_box s_box M d j x < 256
   unfolding masked_box
-  box-byte j x h =
+  box_byte j x h =
       xor_byte (s_box (x ⊕ at M (j % 16))) (at M ((j + d) % 16)) (s_box_byte (x ⊕ at M (j % 16)) (xor_byte x (at M (j % 16)) h (hM.byte (j % 16)))) (hM.byte ((j + d) % 16))
 
   compensation-bytes : (k : ℕ) → Bytes 16 (compensation (mask M v k))
@@ -121,7 +121,7 @@ module _ {M w : List ℕ} {size : ℕ} (hM : Bytes 16 M) (hw : Bytes size w) (p 
   covered-bytes block h = add_bytes h (mask-bytes 0)
   covered-bytes (keyed r) h = add_bytes h (key_bytes size w hw r)
   covered-bytes (boxed r) {s} h =
-      state-bytes (λ i. masked_box s_box M d (label v (d * r) i) (at s i)) (λ i. box-byte (label v (d * r) i) (at s i) (h.byte i))
+      state-bytes (λ i. masked_box s_box M d (label v (d * r) i) (at s i)) (λ i. box_byte (label v (d * r) i) (at s i) (h.byte i))
   covered-bytes (shifted r) h = shift_bytes h
   covered-bytes (mixed r) {s} h = mix_bytes s
   covered-bytes (compensated r) h = add_bytes h (compensation-bytes (d * suc r))
@@ -155,29 +155,29 @@ module _ {M w : List ℕ} {size : ℕ} (hM : Bytes 16 M) (hw : Bytes size w) (p 
   lent_is (uncovered r) t s h =
       ap (λ (m : List ℕ). s ⊞ shift_rows m) (mask_turn M p o (d * n) ∙ ap (λ (k : ℕ). mask M v (d * k)) (sym (eqb→eq (suc r) n t)))
 
-  wholes-due : (k : ℕ) → T (all_due due (wholes k))
+  wholes_due : (k : ℕ) → T (all_due due (wholes k))
   unfolding wholes all_due due
-  wholes-due zero = tt
-  wholes-due (suc k) = due_append due (wholes k) (whole k) (wholes-due k) tt
+  wholes_due zero = tt
+  wholes_due (suc k) = due_append due (wholes k) (whole k) (wholes_due k) tt
 
-  final-due : (k : ℕ) → suc k ≡ n → T (all_due due (final k))
+  final_due : (k : ℕ) → suc k ≡ n → T (all_due due (final k))
   unfolding all_due due
-  final-due k e = both (eqb (suc k) n) true (subst T (sym (eq-eqb (suc k) n e)) tt) tt
+  final_due k e = both (eqb (suc k) n) true (subst T (sym (eq-eqb (suc k) n e)) tt) tt
 
   -- the points behind the covered block
   abbrev behind : List Point
   behind = wholes (n - 1) ++ final (n - 1)
 
-  behind-due : 0 < n → T (all_due due behind)
-  behind-due pos = due_append due (wholes (n - 1)) (final (n - 1)) (wholes-due (n - 1)) (final-due (n - 1) (omega (arith, pos)))
+  behind_due : 0 < n → T (all_due due behind)
+  behind_due pos = due_append due (wholes (n - 1)) (final (n - 1)) (wholes_due (n - 1)) (final_due (n - 1) (omega (arith, pos)))
 
   -- what a run of the steps records, where it is lent the right tables and starts from the covered block
-  pub lent-record : {input : List ℕ} → Bytes 16 input → 0 < n → (s b c end : List ℕ) → s ≡ input ⊞ mask M p o → b ≡ masked_boxes s_box M d
+  pub lent_record : {input : List ℕ} → Bytes 16 input → 0 < n → (s b c end : List ℕ) → s ≡ input ⊞ mask M p o → b ≡ masked_boxes s_box M d
       → c ≡ constants compensation M p → end ≡ shift_rows (mask M p ((o + d * n) % 16))
       → run (steps w b c p o d end) s (points n) ≡ masked_record n M v d w input
   unfolding masked_record points run steps covered
-  lent-record {input} h pos s b c end es eb ec ee =
+  lent_record {input} h pos s b c end es eb ec ee =
       let start : s ≡ input ⊞ mask M v 0 = es ∙ ap (λ (m : List ℕ). input ⊞ m) (mask_first M p o) in
       (λ i. run (steps w (eb i) (ec i) p o d (ee i)) (start i) (points n))
       ∙ ap (λ (u : List (List ℕ)). (input ⊞ mask M v 0) ∷ u)
-      (run_is lent (covered M v d w) due lent_is (λ q s h. covered-bytes q h) behind (behind-due pos) (input ⊞ mask M v 0) (add_bytes h (mask-bytes 0)))
+      (run_is lent (covered M v d w) due lent_is (λ q s h. covered-bytes q h) behind (behind_due pos) (input ⊞ mask M v 0) (add_bytes h (mask-bytes 0)))

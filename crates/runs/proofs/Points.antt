@@ -12,7 +12,7 @@ use Rattle.aes.specs.Record.{mixed, compensated, closed, uncovered}
 use Rattle.masks.specs.Mask.{◌⊞◌}
 use Rattle.masks.specs.Order.{boxed_by, boxes_at}
 use Rattle.runs.specs.Lent.{steps, point_after}
-use Rattle.runs.proofs.Labels.{same-label, label_on}
+use Rattle.runs.proofs.Labels.{same_label, label_on}
 use Rattle.runs.proofs.LentSteps.{after-at, not_last}
 
 last_mixed : (n m : ℕ) → m % 5 ≡ 3 → suc (m / 5) ≡ n → m + 2 ≡ 5 * n
@@ -33,15 +33,15 @@ module _ (w b c p : List ℕ) (d n m l r : ℕ) (s : List ℕ) (round : r ≡ (m
 
   -- a state that is not answered at this point keeps label and round
   kept : {t : List ℕ} {l' r' : ℕ} {part : List ℕ} → (m % 5 ≡ 1 → ⊥) → Made t → l' ≡ l → r' ≡ r → part ≡ t → Done t l' r' part
-  kept {t} {l'} {r'} other made hl hr hp = (λ o end h. (made o end h, same-label o d l r l' r' hl hr h), hr ∙ omega (arith, round, other), hp)
+  kept {t} {l'} {r'} other made hl hr hp = (λ o end h. (made o end h, same_label o d l r l' r' hl hr h), hr ∙ omega (arith, round, other), hp)
 
-  pub keyed-done : {t : List ℕ} {l' r' : ℕ} {part : List ℕ} → m % 5 ≡ 0 → t ≡ s ⊞ round_key w r → l' ≡ l → r' ≡ r → part ≡ t → Done t l' r' part
+  pub keyed_done : {t : List ℕ} {l' r' : ℕ} {part : List ℕ} → m % 5 ≡ 0 → t ≡ s ⊞ round_key w r → l' ≡ l → r' ≡ r → part ≡ t → Done t l' r' part
   unfolding steps
-  keyed-done e ht = kept (λ other. omega arith) (λ o end h. rw (after-at n m 0 e) (ht ∙ ap (λ (k : ℕ). s ⊞ round_key w k) (omega (arith, e, round))))
+  keyed_done e ht = kept (λ other. omega arith) (λ o end h. rw (after-at n m 0 e) (ht ∙ ap (λ (k : ℕ). s ⊞ round_key w k) (omega (arith, e, round))))
 
-  pub boxed-done : {t : List ℕ} {l' r' : ℕ} {part : List ℕ} → m % 5 ≡ 1 → t ≡ boxed_by b (boxes_at p l) s → l' ≡ (l + d) % 16 → r' ≡ r + 1 → part ≡ t → Done t l' r' part
+  pub boxed_done : {t : List ℕ} {l' r' : ℕ} {part : List ℕ} → m % 5 ≡ 1 → t ≡ boxed_by b (boxes_at p l) s → l' ≡ (l + d) % 16 → r' ≡ r + 1 → part ≡ t → Done t l' r' part
   unfolding steps
-  boxed-done {t} {l'} {r'} e ht hl hr hp =
+  boxed_done {t} {l'} {r'} e ht hl hr hp =
       let r-is : r ≡ m / 5 = omega (arith, e, round) in (
         λ o end h. (
           rw (after-at n m 1 e) (ht ∙ ap (λ (k : ℕ). boxed_by b (boxes_at p k) s) (h ∙ ap (λ (k : ℕ). (o + d * k) % 16) r-is)),
@@ -51,26 +51,26 @@ module _ (w b c p : List ℕ) (d n m l r : ℕ) (s : List ℕ) (round : r ≡ (m
         hp,
       )
 
-  pub shifted-done : {t : List ℕ} {l' r' : ℕ} {part : List ℕ} → m % 5 ≡ 2 → t ≡ shift_rows s → l' ≡ l → r' ≡ r → part ≡ t → Done t l' r' part
+  pub shifted_done : {t : List ℕ} {l' r' : ℕ} {part : List ℕ} → m % 5 ≡ 2 → t ≡ shift_rows s → l' ≡ l → r' ≡ r → part ≡ t → Done t l' r' part
   unfolding steps
-  shifted-done e ht = kept (λ other. omega arith) (λ o end h. rw (after-at n m 2 e) ht)
+  shifted_done e ht = kept (λ other. omega arith) (λ o end h. rw (after-at n m 2 e) ht)
 
-  pub mixed-done : {t : List ℕ} {l' r' : ℕ} {part : List ℕ} → m % 5 ≡ 3 → (m + 2 ≡ 5 * n → ⊥) → t ≡ mix_columns s → l' ≡ l → r' ≡ r → part ≡ t → Done t l' r' part
+  pub mixed_done : {t : List ℕ} {l' r' : ℕ} {part : List ℕ} → m % 5 ≡ 3 → (m + 2 ≡ 5 * n → ⊥) → t ≡ mix_columns s → l' ≡ l → r' ≡ r → part ≡ t → Done t l' r' part
   unfolding steps
-  mixed-done e before ht =
+  mixed_done e before ht =
       kept (λ other. omega arith) (λ o end h. rw (after-at n m 3 e ∙ not_last n (m / 5) (closed (m / 5)) (mixed (m / 5)) (λ last. before (last_mixed n m e last))) ht)
 
-  pub closed-done : {t : List ℕ} {l' r' : ℕ} {part : List ℕ} → m + 2 ≡ 5 * n → t ≡ s ⊞ round_key w r → l' ≡ l → r' ≡ r → part ≡ t → Done t l' r' part
+  pub closed_done : {t : List ℕ} {l' r' : ℕ} {part : List ℕ} → m + 2 ≡ 5 * n → t ≡ s ⊞ round_key w r → l' ≡ l → r' ≡ r → part ≡ t → Done t l' r' part
   unfolding steps
-  closed-done e ht =
+  closed_done e ht =
       let here : m % 5 ≡ 3 = omega (arith, e) in
       let last : suc (m / 5) ≡ n = omega (arith, e) in
       kept (λ other. omega arith)
       (λ o end h. rw (after-at n m 3 here ∙ ap (λ (q : Bool). cond q (closed (m / 5)) (mixed (m / 5))) (eq-eqb (suc (m / 5)) n last)) (ht ∙ ap (λ (k : ℕ). s ⊞ round_key w k) (omega (arith, here, round))))
 
-  pub compensated-done : {t : List ℕ} {l' r' : ℕ} {part : List ℕ} → m + 1 < 5 * n → m % 5 ≡ 4 → t ≡ s ⊞ round_key c l → l' ≡ l → r' ≡ r → part ≡ t → Done t l' r' part
+  pub compensated_done : {t : List ℕ} {l' r' : ℕ} {part : List ℕ} → m + 1 < 5 * n → m % 5 ≡ 4 → t ≡ s ⊞ round_key c l → l' ≡ l → r' ≡ r → part ≡ t → Done t l' r' part
   unfolding steps
-  compensated-done lt e ht =
+  compensated_done lt e ht =
       let r-is : r ≡ suc (m / 5) = omega (arith, e, round) in
       kept (λ other. omega arith)
       (λ o end h. rw (after-at n m 4 e ∙ not_last n (m / 5) (uncovered (m / 5)) (compensated (m / 5)) (before_last n m lt e)) (ht ∙ ap (λ (k : ℕ). s ⊞ round_key c k) (h ∙ ap (λ (j : ℕ). (o + d * j) % 16) r-is)))

@@ -1,4 +1,6 @@
 // Masked runs from a start, over what is stored for the published masks or what is worked out for lent ones.
+#![tactic(auto)]
+
 mod given;
 mod many;
 mod over;

@@ -13,7 +13,7 @@ use Rattle.runs.specs.Back.{Back, block, keyed, unshifted, corrected, unboxed, u
 use Rattle.masks.specs.MaskTable.{bare}
 use Rattle.theorems.specs.Summed.{summed}
 use Rattle.theorems.specs.BackTable.{mask_back_by, plain_back, plain_back_record}
-use Rattle.theorems.proofs.Cover.{Linked, linked-rounds, cover}
+use Rattle.theorems.proofs.Cover.{Linked, linked_rounds, cover}
 use Rattle.theorems.proofs.AnyMasks.{add_swap, add_change, add_gone, add_bare}
 
 -- over any sequence K of masks, where K r lies on the state that round r begins with
@@ -58,13 +58,13 @@ module _ (K : ℕ → List ℕ) (nr : ℕ) where
   unfolding sixes last before mask_back_by
   linked n = (
     refl,
-    linked-rounds (before K) (mask_back_by K) sixes six refl (λ n. refl) K (λ n. (refl, (refl, (refl, (refl, (refl, (refl, tt))))))) (λ n. refl) n (closing n)
+    linked_rounds (before K) (mask_back_by K) sixes six refl (λ n. refl) K (λ n. (refl, (refl, (refl, (refl, (refl, (refl, tt))))))) (λ n. refl) n (closing n)
         (refl, (refl, (refl, (refl, (refl, tt))))),
   )
 
-  pub back-relation-any : (w b : List ℕ)
+  pub back_relation_any : (w b : List ℕ)
       → run (uncovering_by nr K w) b (back_points nr) ≡ summed (plain_back_record nr w b) (map (mask_back_by K) (back_points nr))
   unfolding run summed back_points plain_back_record uncovering_by plain_back mask_back_by
-  back-relation-any w b =
+  back_relation_any w b =
       ap (λ (u : List (List ℕ)). b ⊞ K 0 ∷ u)
       (cover (plain_back nr w) (uncovering_by nr K w) (before K) (mask_back_by K) (step w) (keyed 0 ∷ (sixes (nr - 1) ++ closing (nr - 1))) (K 0) b (linked (nr - 1)))

@@ -11,7 +11,7 @@ use Rattle.aes.proofs.Undo.{mix_add, shift_add}
 use Rattle.masks.specs.Mask.{◌⊞◌}
 use Rattle.masks.specs.MaskTable.{bare, mask_by}
 use Rattle.theorems.specs.Summed.{summed}
-use Rattle.theorems.proofs.Cover.{Linked, linked-rounds, cover}
+use Rattle.theorems.proofs.Cover.{Linked, linked_rounds, cover}
 
 pub add_swap : (s m k : List ℕ) → s ⊞ m ⊞ k ≡ s ⊞ k ⊞ m
 unfolding add_round_key
@@ -71,12 +71,12 @@ module _ (K : ℕ → List ℕ) where
   linked : (n : ℕ) → Linked (before K) (mask_by K) (K 0) (wholes n ++ final n)
   unfolding wholes last before mask_by
   linked n =
-      linked-rounds (before K) (mask_by K) wholes whole refl (λ n. refl) K (λ n. (refl, (refl, (refl, (refl, (refl, tt)))))) (λ n. refl) n (final n)
+      linked_rounds (before K) (mask_by K) wholes whole refl (λ n. refl) K (λ n. (refl, (refl, (refl, (refl, (refl, tt)))))) (λ n. refl) n (final n)
       (refl, (refl, (refl, (refl, (refl, tt)))))
 
-  pub relation-any : (w : List ℕ) (nr : ℕ) (b : List ℕ)
+  pub relation_any : (w : List ℕ) (nr : ℕ) (b : List ℕ)
       → run (covered_by K w) b (points nr) ≡ summed (plain_record nr w b) (map (mask_by K) (points nr))
   unfolding run summed points plain_record covered_by plain mask_by
-  relation-any w nr b =
+  relation_any w nr b =
       ap (λ (u : List (List ℕ)). b ⊞ K 0 ∷ u)
       (cover (plain w) (covered_by K w) (before K) (mask_by K) (step w) (wholes (nr - 1) ++ final (nr - 1)) (K 0) b (linked (nr - 1)))

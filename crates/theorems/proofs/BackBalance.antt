@@ -23,16 +23,16 @@ use Rattle.theorems.specs.Balance.{times, Balanced, single_back, how_many}
 use Rattle.theorems.proofs.Records.{one_offsets, on_offsets, next_one}
 use Rattle.theorems.proofs.Balancing.{upper_unbalanced, how_many-append}
 use Rattle.theorems.proofs.RoundPoints.{unmixed_at}
-use Rattle.theorems.proofs.OneMask.{OneMask, own, moved-right, one_balance}
+use Rattle.theorems.proofs.OneMask.{OneMask, own, moved_right, one_balance}
 use Rattle.theorems.proofs.Fit.{fit-balanced, published-fit}
 use Rattle.theorems.proofs.RecordStates.{published-length}
-use Rattle.theorems.proofs.BackStates.{back-byte}
+use Rattle.theorems.proofs.BackStates.{back_byte}
 
 one_of : (p : Back) (i : ℕ) → T (single_back p) → i < 16 → OneMask mask_back_by p i
 unfolding single_back mask_back_by
 one_of block i t h = own 0 h (λ K. refl)
 one_of (keyed r) i t h = own r h (λ K. refl)
-one_of (unshifted r) i t h = moved-right r h (λ K. refl)
+one_of (unshifted r) i t h = moved_right r h (λ K. refl)
 one_of (corrected r) i t h = own r h (λ K. refl)
 one_of (unboxed r) i t h = own (suc r) h (λ K. refl)
 one_of (unmixed r) i t h = absurd t
@@ -45,7 +45,7 @@ pub back_balance : (M : List ℕ) → (fitness_of M).1 ≡ 1 → (v : List ℕ) 
     → Balanced (λ o. at (record_masked_decryption_of w b M (advanced v o) d states).1 (16 * q + i))
 back_balance M fit v d td w b states lw lb ls q i hq t hi =
     one_balance M (fit-balanced M fit).1 v d (one_of (get_or (back_points (rounds_of w)) q block) i t hi) _ (at (inv_cipher_at (rounds_of w) w b (get_or (back_points (rounds_of w)) q block)) i)
-    (λ o h. back-byte w b states lw lb ls M (fit-balanced M fit).0 (advanced v o) (on_offsets v o) d td q i hq hi)
+    (λ o h. back_byte w b states lw lb ls M (fit-balanced M fit).0 (advanced v o) (on_offsets v o) d td q i hq hi)
 
 -- one mask covers each byte at 5 n + 1 of the 6 n + 1 points of n rounds
 how_many-sixes : (k : ℕ) → how_many single_back (sixes k) ≡ 5 * k
@@ -67,17 +67,17 @@ unmixture = refl
 
 -- the published masks, with any step that is taken
 module _ (d : ℕ) (t : T (taken d)) (w b states : List ℕ) (lw : scheduled (length w) ≡ true) (lb : length b ≡ 16) (ls : length states ≡ 16 * (6 * rounds_of w + 1)) where
-  pub published-back-balance : (v : List ℕ) (q i : ℕ) → q < 6 * rounds_of w + 1 → T (single_back (get_or (back_points (rounds_of w)) q block)) → i < 16
+  pub published_back_balance : (v : List ℕ) (q i : ℕ) → q < 6 * rounds_of w + 1 → T (single_back (get_or (back_points (rounds_of w)) q block)) → i < 16
       → Balanced (λ o. at (record_masked_decryption_of w b published (advanced v o) d states).1 (16 * q + i))
-  published-back-balance v = back_balance published (ap (λ (r : ℕ × ℕ). r.1) published-fit) v d t w b states lw lb ls
+  published_back_balance v = back_balance published (ap (λ (r : ℕ × ℕ). r.1) published-fit) v d t w b states lw lb ls
 
   -- after the first INVMIXCOLUMNS, at point 6, balance fails over the records of one offset, for every schedule and block
-  pub unmixture-unbalanced : Balanced (λ o. at (record_masked_decryption_of w b published (one o) d states).1 (16 * 6 + 0)) → ⊥
+  pub unmixture_unbalanced : Balanced (λ o. at (record_masked_decryption_of w b published (one o) d states).1 (16 * 6 + 0)) → ⊥
   unfolding mask_back_by
-  unmixture-unbalanced =
+  unmixture_unbalanced =
       let six-in : 6 < 6 * rounds_of w + 1 = omega (arith, (some_rounds (length w) lw).0) in
       let here : get_or (back_points (rounds_of w)) 6 block ≡ unmixed 0 = unmixed_at (rounds_of w) 0 (more_rounds (length w) lw) in
       upper_unbalanced (λ o. at (record_masked_decryption_of w b published (one o) d states).1 (16 * 6 + 0)) unmixture_at (at (inv_cipher_at (rounds_of w) w b (unmixed 0)) 0) d 0
-      (λ o h. back-byte w b states lw lb ls published published-length (one o) (one_offsets o) d t 6 0 six-in (lit< tt)
+      (λ o h. back_byte w b states lw lb ls published published-length (one o) (one_offsets o) d t 6 0 six-in (lit< tt)
       ∙ ap (λ (p : Back). at (inv_cipher_at (rounds_of w) w b p) 0 ⊕ at (mask_back_at published (one o) d p) 0) here ∙ ap (λ (m : List ℕ). at (inv_cipher_at (rounds_of w) w b (unmixed 0)) 0 ⊕ at (inv_mix_columns m) 0) (next_one published o d))
       unmixture (λ e. omega arith)

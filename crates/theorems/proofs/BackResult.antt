@@ -21,8 +21,8 @@ use Rattle.theorems.specs.Summed.{summed}
 use Rattle.theorems.specs.BackTable.{mask_back_by, mask_back_at, plain_back, plain_back_record}
 use Rattle.theorems.proofs.CallLaws.{inv_cipher_size}
 use Rattle.theorems.proofs.Cover.{last-map, last-summed}
-use Rattle.theorems.proofs.PlainBack.{back-record-last}
-use Rattle.theorems.proofs.BackRelation.{back-relation}
+use Rattle.theorems.proofs.PlainBack.{back_record_last}
+use Rattle.theorems.proofs.BackRelation.{back_relation}
 use Rattle.theorems.proofs.Result.{add_none}
 use Rattle.theorems.proofs.Records.{low_offsets}
 
@@ -39,7 +39,7 @@ last-state M v d nr w b = last-summed (plain_back nr w) (mask_back_at M v d) (ke
 pub masked_inv_cipher_lem : (M v : List ℕ) (d : ℕ) (w : List ℕ) (nr : ℕ) (b : List ℕ) → masked_inv_cipher nr M v d w b ≡ inv_cipher nr w b
 unfolding masked_inv_cipher
 masked_inv_cipher_lem M v d w nr b =
-    rw (back-relation M v d nr w b, last-state M v d nr w b, back-record-last nr w b, last-mask M v d nr b)
+    rw (back_relation M v d nr w b, last-state M v d nr w b, back_record_last nr w b, last-mask M v d nr b)
     (add_none (inv_cipher nr w b) (inv_cipher_size nr w b))
 
 -- At the calls: whatever the masks, the offsets and the step are, they write what the plain call writes.

@@ -11,7 +11,7 @@ use lib.Bits.{xor_shr, xor_mod, xor_block, xor_lt}
 use mir.Facts.{and_yes, eqb_no}
 use borrow.Author.Tests.{eq-eqb, ne_eqb}
 use Rattle.aes.specs.Byte.{◌⊕◌, bit, listed, table, below}
-use Rattle.aes.proofs.Xor.{mod-two, xor_cancel}
+use Rattle.aes.proofs.Xor.{mod_two, xor_cancel}
 use Rattle.aes.proofs.Listed.{table_same}
 use Rattle.aes.proofs.Below.{below_all, under}
 use Rattle.beside.specs.Fitness.{pattern, count, even, balanced}
@@ -21,8 +21,8 @@ use Rattle.theorems.specs.Balance.{times, different, Balanced, how_many}
 
 -- Where σ undoes itself, the counts move with the patterns.
 module _ (σ : ℕ → ℕ) (undone : (v : ℕ) → v < 8 → σ (σ v) ≡ v) where
-  same-eqb : (v t : ℕ) → v < 8 → t < 8 → eqb (σ v) t ≡ eqb v (σ t)
-  same-eqb v t hv ht =
+  same_eqb : (v t : ℕ) → v < 8 → t < 8 → eqb (σ v) t ≡ eqb v (σ t)
+  same_eqb v t hv ht =
       elim (ℕ_discrete v (σ t)) [
         | yes e ↦ rw (eq-eqb v (σ t) e) (eq-eqb (σ v) t (rw e (undone t ht)))
         | no e ↦ rw (ne_eqb v (σ t) e) (ne_eqb (σ v) t (λ q. e (rw (← q) (sym (undone v hv)))))
@@ -32,7 +32,7 @@ module _ (σ : ℕ → ℕ) (undone : (v : ℕ) → v < 8 → σ (σ v) ≡ v) w
       → count t (listed (λ o. σ (g o)) i n) ≡ count (σ t) (listed g i n)
   unfolding count
   count-moved t ht g hg i zero = refl
-  count-moved t ht g hg i (suc n) = rw (same-eqb (g i) t (hg i) ht, count-moved t ht g hg (suc i) n)
+  count-moved t ht g hg i (suc n) = rw (same_eqb (g i) t (hg i) ht, count-moved t ht g hg (suc i) n)
 
 -- the bits x, y and z show each of their patterns twice
 Twice : (ℕ → ℕ) → ℕ → ℕ → ℕ → Type 0
@@ -60,7 +60,7 @@ module _ (f : ℕ → ℕ) where
   unfolding pattern below
   upper x y z =
       moved σ (λ v h. eqb→eq (σ (σ v)) v (under (λ v. eqb (σ (σ v)) v) 8 tt v h)) (λ v h. omega arith) f f x y z x z y
-      (λ o. bits (bit (f o) x) (bit (f o) y) (bit (f o) z) (mod-two _) (mod-two _) (mod-two _))
+      (λ o. bits (bit (f o) x) (bit (f o) y) (bit (f o) z) (mod_two _) (mod_two _) (mod_two _))
     where
       σ : ℕ → ℕ
       σ v = v / 2 % 2 * 4 + v / 4 * 2 + v % 2
@@ -139,7 +139,7 @@ pattern_xor : (x y z v w : ℕ) → pattern x y z (v ⊕ w) ≡ pattern x y z v 
 unfolding pattern
 pattern_xor x y z v w =
     rw (bit_xor v w x, bit_xor v w y, bit_xor v w z)
-    (sym (joined (bit v z) (bit v y) (bit v x) (bit w z) (bit w y) (bit w x) (mod-two _) (mod-two _) (mod-two _) (mod-two _)))
+    (sym (joined (bit v z) (bit v y) (bit v x) (bit w z) (bit w y) (bit w x) (mod_two _) (mod_two _) (mod_two _) (mod_two _)))
 
 pub balanced_xor : (c : ℕ) (f : ℕ → ℕ) → Balanced f → Balanced (λ o. c ⊕ f o)
 unfolding Twice

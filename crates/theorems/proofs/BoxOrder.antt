@@ -28,9 +28,9 @@ use Rattle.masks.specs.MaskTable.{mask_by, mask_at}
 use Rattle.theorems.specs.Neighbours.{between_states, between_recorded, between_bare, between_masks}
 use Rattle.theorems.specs.Ways.{Offsets}
 use Rattle.theorems.proofs.Records.{one_offsets}
-use Rattle.theorems.proofs.Relation.{mask_entry, relation-cipher}
+use Rattle.theorems.proofs.Relation.{mask_entry, relation_cipher}
 use Rattle.theorems.proofs.States.{add_at}
-use Rattle.theorems.proofs.RecordStates.{published-length, masked-states}
+use Rattle.theorems.proofs.RecordStates.{published-length, masked_states}
 use Rattle.theorems.proofs.RoundPoints.{keyed-at, boxed_at, within-run}
 
 -- Any order of the boxes, any masks.
@@ -48,18 +48,18 @@ module _ (order : List ℕ) (positions : (k : ℕ) → k < 16 → at order k < 1
 
   module _ (M v : List ℕ) (d : ℕ) (w b : List ℕ) (r k : ℕ) (hk : k < 15) where
     -- in a run of any number of rounds: the xor of the two bytes of CIPHER, under the xor of their masks
-    pub between-states : (nr : ℕ) → r < nr
+    pub between_states_lem : (nr : ℕ) → r < nr
         → between_states order (masked_record nr M v d w b) (5 * r + 1) k ≡ between_bare order w b r k ⊕ between_masks order M v d r k
-    between-states nr hr =
-        between-points (cipher_at w b) (mask_at M v d) block (points nr) (λ q. get_or (masked_record nr M v d w b) q []) (relation-cipher M v d w nr b) (5 * r + 1)
+    between_states_lem nr hr =
+        between-points (cipher_at w b) (mask_at M v d) block (points nr) (λ q. get_or (masked_record nr M v d w b) q []) (relation_cipher M v d w nr b) (5 * r + 1)
         (within-run nr r hr) (keyed r) (boxed r) (keyed-at nr r hr) (boxed_at nr r hr) k hk
 
     -- the same of the states that record_masked writes
-    pub between-recorded : length M ≡ 16 → (states : List ℕ) → scheduled (length w) ≡ true → length b ≡ 16 → length states ≡ 16 * (5 * rounds_of w + 1) → Offsets v → T (taken d) → r < rounds_of w
+    pub between_recorded_lem : length M ≡ 16 → (states : List ℕ) → scheduled (length w) ≡ true → length b ≡ 16 → length states ≡ 16 * (5 * rounds_of w + 1) → Offsets v → T (taken d) → r < rounds_of w
         → between_recorded order (record_masked_of w b M v d states).1 (5 * r + 1) k ≡ between_bare order w b r k ⊕ between_masks order M v d r k
-    between-recorded lm states lw lb ls hv t hr =
-        let written : (q : ℕ) → block_at q (record_masked_of w b M v d states).1 ≡ get_or (masked_record (rounds_of w) M v d w b) q [] = masked-states w b states lw lb ls M lm v hv d t in
-        (λ i. between order (written (5 * r + 1) i) (written (5 * r + 1 + 1) i) k) ∙ between-states (rounds_of w) hr
+    between_recorded_lem lm states lw lb ls hv t hr =
+        let written : (q : ℕ) → block_at q (record_masked_of w b M v d states).1 ≡ get_or (masked_record (rounds_of w) M v d w b) q [] = masked_states w b states lw lb ls M lm v hv d t in
+        (λ i. between order (written (5 * r + 1) i) (written (5 * r + 1 + 1) i) k) ∙ between_states_lem (rounds_of w) hr
 
 natural-at : (k : ℕ) → k < 16 → at natural k ≡ k
 unfolding table
@@ -99,33 +99,33 @@ unfolding mask_by
 never_bare o d r k t hk = rw mul-suc (lucky o (d * r) d k t hk)
 
 module _ (o : ℕ) (w b : List ℕ) (r k : ℕ) (hk : k < 15) where
-  pub even-first : (d : ℕ) → T (taken d) → (nr : ℕ) → r < nr
+  pub even_first : (d : ℕ) → T (taken d) → (nr : ℕ) → r < nr
       → (between_states box_order (masked_record nr published (one o) d w b) (5 * r + 1) k ≡ between_bare box_order w b r k ⊕ between_masks box_order published (one o) d r k)
       × (between_masks box_order published (one o) d r k ≡ 0 → ⊥)
-  even-first d t nr hr = (between-states box_order order_below published (one o) d w b r k hk nr hr, never_bare o d r k t hk)
+  even_first d t nr hr = (between_states_lem box_order order_below published (one o) d w b r k hk nr hr, never_bare o d r k t hk)
 
   -- In natural order, with step 1 and whatever the masks are, it is always 00.
-  always-bare : (M : List ℕ) → between_masks natural M (one o) 1 r k ≡ 0
-  always-bare M =
+  always_bare : (M : List ℕ) → between_masks natural M (one o) 1 r k ≡ 0
+  always_bare M =
       on natural M o 1 r k (natural-below k (omega arith)) (natural-below (k + 1) (omega arith))
       (rw (natural-at k (omega arith), natural-at (k + 1) (omega arith)) (omega arith))
 
   pub natural-bare : (nr : ℕ) → r < nr → (M : List ℕ)
       → (between_states natural (masked_record nr M (one o) 1 w b) (5 * r + 1) k ≡ between_bare natural w b r k ⊕ between_masks natural M (one o) 1 r k)
       × (between_masks natural M (one o) 1 r k ≡ 0)
-  natural-bare nr hr M = (between-states natural natural-below M (one o) 1 w b r k hk nr hr, always-bare M)
+  natural-bare nr hr M = (between_states_lem natural natural-below M (one o) 1 w b r k hk nr hr, always_bare M)
 
   -- both of what record_masked writes
   module _ (states : List ℕ) (lw : scheduled (length w) ≡ true) (lb : length b ≡ 16) (ls : length states ≡ 16 * (5 * rounds_of w + 1)) (hr : r < rounds_of w) where
-    pub even-first-recorded : (d : ℕ) → T (taken d)
+    pub even_first_recorded : (d : ℕ) → T (taken d)
         → (between_recorded box_order (record_masked_of w b published (one o) d states).1 (5 * r + 1) k ≡ between_bare box_order w b r k ⊕ between_masks box_order published (one o) d r k)
         × (between_masks box_order published (one o) d r k ≡ 0 → ⊥)
-    even-first-recorded d t = (between-recorded box_order order_below published (one o) d w b r k hk published-length states lw lb ls (one_offsets o) t hr, never_bare o d r k t hk)
+    even_first_recorded d t = (between_recorded_lem box_order order_below published (one o) d w b r k hk published-length states lw lb ls (one_offsets o) t hr, never_bare o d r k t hk)
 
-    pub natural-bare-recorded : (M : List ℕ) → length M ≡ 16
+    pub natural_bare_recorded : (M : List ℕ) → length M ≡ 16
         → (between_recorded natural (record_masked_of w b M (one o) 1 states).1 (5 * r + 1) k ≡ between_bare natural w b r k ⊕ between_masks natural M (one o) 1 r k)
         × (between_masks natural M (one o) 1 r k ≡ 0)
-    natural-bare-recorded M lm = (between-recorded natural natural-below M (one o) 1 w b r k hk lm states lw lb ls (one_offsets o) tt hr, always-bare M)
+    natural_bare_recorded M lm = (between_recorded_lem natural natural-below M (one o) 1 w b r k hk lm states lw lb ls (one_offsets o) tt hr, always_bare M)
 
 -- Why the steps that are not taken are refused. Of the fifteen neighbours of the order fourteen are two positions apart, and one, at
 -- place 7, is three: from position 14 to 1.
@@ -139,8 +139,8 @@ three_apart = refl
 
 module _ (M : List ℕ) (o r : ℕ) where
   -- With step 2 the mask between two boxes is 00 at all places but 7, in every round, at every offset, whatever the masks are.
-  pub step-two-bare : (k : ℕ) → k < 15 → (k ≡ 7 → ⊥) → between_masks box_order M (one o) 2 r k ≡ 0
-  step-two-bare k h other =
+  pub step_two_bare : (k : ℕ) → k < 15 → (k ≡ 7 → ⊥) → between_masks box_order M (one o) 2 r k ≡ 0
+  step_two_bare k h other =
       on box_order M o 2 r k (order_below k (omega arith)) (order_below (k + 1) (omega arith))
       (eqb→eq _ _ (others (eqb k 7) _ (no_eqb other) (under _ 15 two_apart k h)))
     where
@@ -149,13 +149,13 @@ module _ (M : List ℕ) (o r : ℕ) where
       others false b t u = u
 
   -- With step 3 it is 00 at place 7.
-  pub step-three-bare : between_masks box_order M (one o) 3 r 7 ≡ 0
-  step-three-bare = on box_order M o 3 r 7 (order_below 7 (lit< tt)) (order_below 8 (lit< tt)) three_apart
+  pub step_three_bare : between_masks box_order M (one o) 3 r 7 ≡ 0
+  step_three_bare = on box_order M o 3 r 7 (order_below 7 (lit< tt)) (order_below 8 (lit< tt)) three_apart
 
   -- With step 0 one mask lies on the state before and after the boxes, and in all rounds.
-  pub step-zero-stays : (mask_at M (one o) 0 (boxed r) ≡ mask_at M (one o) 0 (keyed r)) × (mask_at M (one o) 0 (keyed r) ≡ mask M (one o) 0)
+  pub step_zero_stays : (mask_at M (one o) 0 (boxed r) ≡ mask_at M (one o) 0 (keyed r)) × (mask_at M (one o) 0 (keyed r) ≡ mask M (one o) 0)
   unfolding mask_by
-  step-zero-stays = (ap (mask M (one o)) (zero-mul (suc r) ∙ sym (zero-mul r)), ap (mask M (one o)) (zero-mul r))
+  step_zero_stays = (ap (mask M (one o)) (zero-mul (suc r) ∙ sym (zero-mul r)), ap (mask M (one o)) (zero-mul r))
 
 -- Of other records that is not claimed: at 0, 1, 1, 3 .. 15, where byte 2 has the offset of byte 1, the first two boxes leave 00 with
 -- step 1, in every round and whatever the masks are.
@@ -174,5 +174,5 @@ unlucky_offsets = (refl, λ i h. lit≤ (under (λ i. leb (at unlucky i) 15) 16 
 pub unlucky_recorded : (w b states : List ℕ) → scheduled (length w) ≡ true → length b ≡ 16 → length states ≡ 16 * (5 * rounds_of w + 1) → (r : ℕ) → r < rounds_of w
     → between_recorded box_order (record_masked_of w b published unlucky 1 states).1 (5 * r + 1) 0 ≡ between_bare box_order w b r 0
 unlucky_recorded w b states lw lb ls r hr =
-    between-recorded box_order order_below published unlucky 1 w b r 0 (lit< tt) published-length states lw lb ls unlucky_offsets tt hr
+    between_recorded_lem box_order order_below published unlucky 1 w b r 0 (lit< tt) published-length states lw lb ls unlucky_offsets tt hr
     ∙ ap (λ (x : ℕ). between_bare box_order w b r 0 ⊕ x) (unlucky_bare published r) ∙ xor_zero _

@@ -11,7 +11,7 @@ use Rattle.aes.specs.Key.{rounds_of}
 use Rattle.aes.specs.Cipher.{cipher, inv_cipher}
 use Rattle.aes.specs.Reply.{scheduled}
 use Rattle.aes.specs.Calls.{block_of, encrypt_of, decrypt_of}
-use Rattle.theorems.proofs.RoundTrip.{inv-cipher-cipher, cipher-inv-cipher}
+use Rattle.theorems.proofs.RoundTrip.{inv_cipher-cipher, cipher-inv_cipher}
 use Rattle.aes.proofs.Undo.{add_size}
 
 pub cipher_size : (nr : ℕ) (w block : List ℕ) → length (cipher nr w block) ≡ 16
@@ -44,8 +44,8 @@ module _ {w block : List ℕ} {size : ℕ} (hw : Bytes size w) (is : scheduled s
         eq-eqb (length (made back w block)) 16 (made_size back w block),
       )
 
-  pub decrypt-encrypt : decrypt_of w (encrypt_of w block first).1 second ≡ (0, block)
-  decrypt-encrypt = done false true ∙ ap (λ (l : List ℕ). (0, l)) (inv-cipher-cipher size w hw (rounds_of w) hb)
+  pub decrypt_encrypt : decrypt_of w (encrypt_of w block first).1 second ≡ (0, block)
+  decrypt_encrypt = done false true ∙ ap (λ (l : List ℕ). (0, l)) (inv_cipher-cipher size w hw (rounds_of w) hb)
 
-  pub encrypt-decrypt : encrypt_of w (decrypt_of w block first).1 second ≡ (0, block)
-  encrypt-decrypt = done true false ∙ ap (λ (l : List ℕ). (0, l)) (cipher-inv-cipher size w hw (rounds_of w) hb)
+  pub encrypt_decrypt : encrypt_of w (decrypt_of w block first).1 second ≡ (0, block)
+  encrypt_decrypt = done true false ∙ ap (λ (l : List ℕ). (0, l)) (cipher-inv_cipher size w hw (rounds_of w) hb)

@@ -13,7 +13,7 @@ use Rattle.aes.specs.State.{at, Bytes}
 use Rattle.aes.proofs.Listed.{table_same}
 use Rattle.aes.proofs.Undo.{state-at, add_bytes, add_twice}
 use Rattle.masks.specs.Mask.{◌⊞◌, in_row}
-use Rattle.masks.proofs.Row.{row-size, row-at, row_same}
+use Rattle.masks.proofs.Row.{row_size, row_at_lem, row_same}
 use Rattle.masked.specs.Calls.{block_at}
 use Rattle.cbc.specs.Cbc.{chained, cbc_encrypted, before, cbc_decrypted}
 use Rattle.cbc.proofs.Links.{part_size, part_entries, links}
@@ -23,12 +23,12 @@ use Rattle.theorems.proofs.WrapTrip.{Undone}
 row_block : (f : ℕ → List ℕ) → ((j : ℕ) → length (f j) ≡ 16) → (n j : ℕ) → j < n → block_at j (in_row f n) ≡ f j
 unfolding table
 row_block f h n j lt =
-    let room : 16 * j + 16 ≤ length (in_row f n) = rw (row-size f 16 h n) (omega arith) in
+    let room : 16 * j + 16 ≤ length (in_row f n) = rw (row_size f 16 h n) (omega arith) in
     sym (part_entries (16 * j) (in_row f n) room)
     ∙ entries
   where
     rows : listed (λ x. at (in_row f n) (16 * j + x)) 0 16 ≡ listed (at (f j)) 0 16
-    rows = table_same (λ x. at (in_row f n) (16 * j + x)) (at (f j)) 16 (λ x lx. row-at f 16 h n j x lt lx)
+    rows = table_same (λ x. at (in_row f n) (16 * j + x)) (at (f j)) 16 (λ x lx. row_at_lem f 16 h n j x lt lx)
 
     entries : listed (λ x. at (in_row f n) (16 * j + x)) 0 16 ≡ f j
     entries = rows ∙ state-at (f j) (h j)
@@ -57,36 +57,36 @@ block_bytes k xs h room = record { size = part_size (16 * k) xs room; byte = par
 
 -- CBC is undone, block by block
 module _ {E D : List ℕ → List ℕ} (c : Undone E D) (start plain : List ℕ) (n : ℕ) (l : length plain ≡ 16 * n) (first : Bytes 16 start) (h : (i : ℕ) → at plain i < 256) where
-  chain-size : (j : ℕ) → length (links E start plain j) ≡ 16
+  chain_size : (j : ℕ) → length (links E start plain j) ≡ 16
   unfolding chained
-  chain-size j = c.size (block_at j plain ⊞ chained E start plain j)
+  chain_size j = c.size (block_at j plain ⊞ chained E start plain j)
 
-  chain-bytes : (j : ℕ) → j ≤ n → Bytes 16 (chained E start plain j)
+  chain_bytes : (j : ℕ) → j ≤ n → Bytes 16 (chained E start plain j)
   unfolding chained
-  chain-bytes zero le = first
-  chain-bytes (suc j) le =
-      c.kept (add_bytes (block_bytes j plain h (omega (arith, l))) (chain-bytes j (omega arith)))
+  chain_bytes zero le = first
+  chain_bytes (suc j) le =
+      c.kept (add_bytes (block_bytes j plain h (omega (arith, l))) (chain_bytes j (omega arith)))
 
   earlier : (j : ℕ) → j < n → before start (in_row (links E start plain) n) j ≡ chained E start plain j
   unfolding chained
   earlier zero lt = refl
-  earlier (suc j) lt = row_block (links E start plain) chain-size n j (omega arith)
+  earlier (suc j) lt = row_block (links E start plain) chain_size n j (omega arith)
 
   one : (j : ℕ) → j < n → D (block_at j (in_row (links E start plain) n)) ⊞ before start (in_row (links E start plain) n) j ≡ block_at j plain
   unfolding chained
   one j lt =
-      ap₂ (λ (b d : List ℕ). D b ⊞ d) (row_block (links E start plain) chain-size n j lt) (earlier j lt)
+      ap₂ (λ (b d : List ℕ). D b ⊞ d) (row_block (links E start plain) chain_size n j lt) (earlier j lt)
       ∙ ap (λ (b : List ℕ). b ⊞ chained E start plain j)
-      (c.undo (add_bytes (block_bytes j plain h (omega (arith, l))) (chain-bytes j (omega arith))))
+      (c.undo (add_bytes (block_bytes j plain h (omega (arith, l))) (chain_bytes j (omega arith))))
       ∙ add_twice (chained E start plain j) (block_bytes j plain h (omega (arith, l)))
 
-  pub cbc-size : length (cbc_encrypted E start plain) ≡ 16 * n
+  pub cbc_size : length (cbc_encrypted E start plain) ≡ 16 * n
   unfolding cbc_encrypted
-  cbc-size = let e : length plain / 16 ≡ n = omega (arith, l) in rw e (row-size (links E start plain) 16 chain-size n)
+  cbc_size = let e : length plain / 16 ≡ n = omega (arith, l) in rw e (row_size (links E start plain) 16 chain_size n)
 
-  pub cbc-undone : cbc_decrypted D start (cbc_encrypted E start plain) ≡ plain
+  pub cbc_undone : cbc_decrypted D start (cbc_encrypted E start plain) ≡ plain
   unfolding cbc_encrypted cbc_decrypted
-  cbc-undone =
+  cbc_undone =
       let e : length plain / 16 ≡ n = omega (arith, l) in
-      let g : length (in_row (links E start plain) n) / 16 ≡ n = rw (row-size (links E start plain) 16 chain-size n) (omega arith) in
+      let g : length (in_row (links E start plain) n) / 16 ≡ n = rw (row_size (links E start plain) 16 chain_size n) (omega arith) in
       rw (e, g) (row_same _ (λ j. block_at j plain) n one ∙ row_all plain n l)

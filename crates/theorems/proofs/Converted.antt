@@ -17,7 +17,7 @@ use Rattle.beside.specs.Stored.{stored, convert_of}
 use Rattle.masks.specs.MaskTable.{mask_by}
 use Rattle.theorems.proofs.CallLaws.{cipher_size}
 use Rattle.theorems.proofs.AnyMasks.{add_change, add_gone}
-use Rattle.theorems.proofs.Relation.{relation-cipher}
+use Rattle.theorems.proofs.Relation.{relation_cipher}
 use Rattle.theorems.proofs.RoundPoints.{run_length}
 use Rattle.theorems.proofs.Result.{add_none}
 
@@ -33,7 +33,7 @@ pub stored_is : (w b : List ℕ) (o : ℕ)
     → get_or (masked_record 14 published (one o) 1 w b) 69 [] ⊞ (mask published (one o) 14 ⊞ shift_rows (mask published (one o) 14)) ≡ stored o (cipher 14 w b)
 unfolding points wholes mask_by cipher_at cipher
 stored_is w b o =
-    ap (λ (s : List ℕ). s ⊞ (mask published (one o) 14 ⊞ shift_rows (mask published (one o) 14))) (relation-cipher published (one o) 1 w 14 b 69 (rw (run_length 14 (lit< tt)) (lit< tt)))
+    ap (λ (s : List ℕ). s ⊞ (mask published (one o) 14 ⊞ shift_rows (mask published (one o) 14))) (relation_cipher published (one o) 1 w 14 b 69 (rw (run_length 14 (lit< tt)) (lit< tt)))
     ∙ add_change (cipher 14 w b) (shift_rows (mask published (one o) 14)) (mask published (one o) 14)
 
 -- of what is stored of a block, the block that encrypt writes

@@ -17,17 +17,17 @@ Linked before there m [] = Unit
 Linked before there m (p ∷ ps) = (before p ≡ m) × Linked before there (there p) ps
 
 module _ {P : Type 0} (before there : P → List ℕ) where
-  linked-append : (ps qs : List P) (m : List ℕ) → Linked before there m ps → Linked before there (last m (map there ps)) qs → Linked before there m (ps ++ qs)
+  linked_append : (ps qs : List P) (m : List ℕ) → Linked before there m ps → Linked before there (last m (map there ps)) qs → Linked before there m (ps ++ qs)
   unfolding last
-  linked-append [] qs m l k = k
-  linked-append (p ∷ ps) qs m l k = (l.0, linked-append ps qs (there p) l.1 k)
+  linked_append [] qs m l k = k
+  linked_append (p ∷ ps) qs m l k = (l.0, linked_append ps qs (there p) l.1 k)
 
   -- rounds one after the other, each from what the one before has left
   module _ (rounds round : ℕ → List P) (none : rounds 0 ≡ []) (more : (n : ℕ) → rounds (suc n) ≡ rounds n ++ round n) (left : ℕ → List ℕ)
       (linked : (n : ℕ) → Linked before there (left n) (round n)) (leaves : (n : ℕ) → last (left n) (map there (round n)) ≡ left (suc n)) where
-    pub linked-rounds : (n : ℕ) (qs : List P) → Linked before there (left n) qs → Linked before there (left 0) (rounds n ++ qs)
-    linked-rounds zero qs l = rw none l
-    linked-rounds (suc n) qs l = rw (more n, append_assoc) (linked-rounds n (round n ++ qs) (linked-append (round n) qs (left n) (linked n) (rw (leaves n) l)))
+    pub linked_rounds : (n : ℕ) (qs : List P) → Linked before there (left n) qs → Linked before there (left 0) (rounds n ++ qs)
+    linked_rounds zero qs l = rw none l
+    linked_rounds (suc n) qs l = rw (more n, append_assoc) (linked_rounds n (round n ++ qs) (linked_append (round n) qs (left n) (linked n) (rw (leaves n) l)))
 
 pub followed : {P : Type 0} (f : P → List ℕ → List ℕ) (before there : P → List ℕ) → ((p : P) → f p (before p) ≡ there p)
     → (ps : List P) (s : List ℕ) → Linked before there s ps → run f s ps ≡ map there ps

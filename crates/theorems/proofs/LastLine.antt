@@ -21,7 +21,7 @@ use Rattle.masks.specs.Mask.{published, one, mask}
 use Rattle.beside.specs.Fitness.{pattern, patterns, count}
 use Rattle.beside.specs.Report.{mixed_over, values_of, triples, row_at, byte_at, bit_at, counts_at, least, greatest, picked, even_lines, picked_of, lowest_of, highest_of, last_line}
 use Rattle.beside.proofs.Alike.{turns}
-use Rattle.theorems.proofs.Report.{counts-values, line_inside}
+use Rattle.theorems.proofs.Report.{counts_values, line_inside}
 
 unfoldable tables : List (List ℕ)
 tables =
@@ -58,9 +58,9 @@ module _ (x y z t : ℕ) where
       ap (count t) (table_same (λ l. pattern x y z (at (mixed_over published i) l)) (λ l. pattern x y z (at v ((l + 4 * (i / 4)) % 16))) 16 (λ l hl. ap (pattern x y z) (eqb→eq _ _ (under _ 16 (under _ 16 mixed_test i h) l hl))))
       ∙ turns t (λ l. pattern x y z (at v l)) (4 * (i / 4))
 
-  same-counts : (j : ℕ) → count t (patterns (at (values_of published (j / 16 + 1) (j % 16))) x y z) ≡ count t (patterns (at (table_of (which j))) x y z)
+  same_counts : (j : ℕ) → count t (patterns (at (values_of published (j / 16 + 1) (j % 16))) x y z) ≡ count t (patterns (at (table_of (which j))) x y z)
   unfolding tables
-  same-counts j =
+  same_counts j =
       elim (ℕ_discrete (j / 16 + 1) 5) [
         | yes e ↦
             let column : j % 16 % 4 ≡ j % 4 = omega arith in
@@ -79,9 +79,9 @@ block j k hj hk =
     let row : row_at n ≡ j / 16 + 1 = omega arith in
     let byte : byte_at n ≡ j % 16 = omega arith in
     let triple : n % 56 ≡ k = omega arith in
-    counts-values published (row_at n) (byte_at n) (bit_at n 0) (bit_at n 1) (bit_at n 2) (line_inside n (omega arith))
+    counts_values published (row_at n) (byte_at n) (bit_at n 0) (bit_at n 1) (bit_at n 2) (line_inside n (omega arith))
     ∙ (λ i. table (λ t. count t (patterns (at (values_of published (row i) (byte i))) (at triples (3 * triple i + 0)) (at triples (3 * triple i + 1)) (at triples (3 * triple i + 2)))) 8)
-    ∙ table_same _ (λ t. count t (patterns (at (table_of (which j))) (at triples (3 * k + 0)) (at triples (3 * k + 1)) (at triples (3 * k + 2)))) 8 (λ t h. same-counts (at triples (3 * k + 0)) (at triples (3 * k + 1)) (at triples (3 * k + 2)) t j)
+    ∙ table_same _ (λ t. count t (patterns (at (table_of (which j))) (at triples (3 * k + 0)) (at triples (3 * k + 1)) (at triples (3 * k + 2)))) 8 (λ t h. same_counts (at triples (3 * k + 0)) (at triples (3 * k + 1)) (at triples (3 * k + 2)) t j)
 
 -- Even lines, added up in blocks of c.
 unfoldable total : (ℕ → ℕ) → ℕ → ℕ
@@ -123,22 +123,22 @@ even_lines_lem =
 -- What is picked of all counts stands in every relation to each of them in which a pick stands to both that it is of, and has every
 -- property that it has of them.
 module _ (pick : ℕ → ℕ → ℕ) (R : ℕ → ℕ → Type 0) (same : (a : ℕ) → R a a) (through : (a b c : ℕ) → R a b → R b c → R a c) (of : (a b : ℕ) → R (pick a b) a × R (pick a b) b) where
-  in-line : (c : List ℕ) (n before : ℕ) → R (picked pick c n before) before × ((t : ℕ) → t < n → R (picked pick c n before) (at c t))
+  in_line : (c : List ℕ) (n before : ℕ) → R (picked pick c n before) before × ((t : ℕ) → t < n → R (picked pick c n before) (at c t))
   unfolding picked
-  in-line c zero before = (same before, λ t h. absurd (omega arith))
-  in-line c (suc n) before =
-      let rest = in-line c n before in
+  in_line c zero before = (same before, λ t h. absurd (omega arith))
+  in_line c (suc n) before =
+      let rest = in_line c n before in
       let new = of (at c n) (picked pick c n before) in (
         through _ _ _ new.1 rest.0,
         λ t h. elim (ℕ_discrete t n) [ yes e ↦ rw e new.0 | no e ↦ through _ _ _ new.1 (rest.1 t (omega arith)) ],
       )
 
-  of-all : (first : ℕ) (f : ℕ → List ℕ) (n k t : ℕ) → k < n → t < 8 → R (picked_of pick first f n) (at (f k) t)
+  of_all : (first : ℕ) (f : ℕ → List ℕ) (n k t : ℕ) → k < n → t < 8 → R (picked_of pick first f n) (at (f k) t)
   unfolding picked_of
-  of-all first f zero k t h ht = absurd (omega arith)
-  of-all first f (suc n) k t h ht =
-      let line = in-line (f n) 8 (picked_of pick first f n) in
-      elim (ℕ_discrete k n) [ yes e ↦ rw e (line.1 t ht) | no e ↦ through _ _ _ line.0 (of-all first f n k t (omega arith) ht) ]
+  of_all first f zero k t h ht = absurd (omega arith)
+  of_all first f (suc n) k t h ht =
+      let line = in_line (f n) 8 (picked_of pick first f n) in
+      elim (ℕ_discrete k n) [ yes e ↦ rw e (line.1 t ht) | no e ↦ through _ _ _ line.0 (of_all first f n k t (omega arith) ht) ]
 
 module _ (pick : ℕ → ℕ → ℕ) (P : ℕ → Type 0) (kept : (a b : ℕ) → P a → P b → P (pick a b)) where
   line_kept : (c : List ℕ) (n before : ℕ) → P before → ((t : ℕ) → t < n → P (at c t)) → P (picked pick c n before)
@@ -146,10 +146,10 @@ module _ (pick : ℕ → ℕ → ℕ) (P : ℕ → Type 0) (kept : (a b : ℕ) �
   line_kept c zero before p h = p
   line_kept c (suc n) before p h = kept _ _ (h n (omega arith)) (line_kept c n before p (λ t lt. h t (omega arith)))
 
-  all-kept : (first : ℕ) (f : ℕ → List ℕ) (n : ℕ) → P first → ((k t : ℕ) → k < n → t < 8 → P (at (f k) t)) → P (picked_of pick first f n)
+  all_kept : (first : ℕ) (f : ℕ → List ℕ) (n : ℕ) → P first → ((k t : ℕ) → k < n → t < 8 → P (at (f k) t)) → P (picked_of pick first f n)
   unfolding picked_of
-  all-kept first f zero p h = p
-  all-kept first f (suc n) p h = line_kept (f n) 8 _ (all-kept first f n p (λ k t lt ht. h k t (omega arith) ht)) (λ t ht. h n t (omega arith) ht)
+  all_kept first f zero p h = p
+  all_kept first f (suc n) p h = line_kept (f n) 8 _ (all_kept first f n p (λ k t lt ht. h k t (omega arith) ht)) (λ t ht. h n t (omega arith) ht)
 
 smaller : (a b : ℕ) → (least a b ≤ a) × (least a b ≤ b)
 smaller a b =
@@ -179,13 +179,13 @@ line_at n h =
 
 lowest : lowest_of (counts_at published) 6272 ≡ 0
 lowest =
-    let at_most = of-all least (λ a b. a ≤ b) (λ a. omega arith) (λ a b c le more. omega (arith, le, more)) smaller 16 (counts_at published) 6272 3585 0 (lit< tt) (lit< tt) in
+    let at_most = of_all least (λ a b. a ≤ b) (λ a. omega arith) (λ a b c le more. omega (arith, le, more)) smaller 16 (counts_at published) 6272 3585 0 (lit< tt) (lit< tt) in
     omega (arith, at_most, ap (λ (c : List ℕ). at c 0) (line_at 3585 (lit< tt)) ∙ none)
 
 highest : highest_of (counts_at published) 6272 ≡ 7
 highest =
-    let at_least_lem = of-all greatest (λ a b. b ≤ a) (λ a. omega arith) (λ a b c le more. omega (arith, le, more)) larger 0 (counts_at published) 6272 3598 3 (lit< tt) (lit< tt) in
-    let at_most = all-kept greatest (λ a. a ≤ 7) kept 0 (counts_at published) 6272 (lit≤ tt) (λ n t h ht. rw (line_at n h) (leb→le _ 7 (under _ 8 (under _ 56 (under _ 5 seven_test (which (n / 56)) (which_lt (n / 56))) (n % 56) (omega arith)) t ht))) in
+    let at_least_lem = of_all greatest (λ a b. b ≤ a) (λ a. omega arith) (λ a b c le more. omega (arith, le, more)) larger 0 (counts_at published) 6272 3598 3 (lit< tt) (lit< tt) in
+    let at_most = all_kept greatest (λ a. a ≤ 7) kept 0 (counts_at published) 6272 (lit≤ tt) (λ n t h ht. rw (line_at n h) (leb→le _ 7 (under _ 8 (under _ 56 (under _ 5 seven_test (which (n / 56)) (which_lt (n / 56))) (n % 56) (omega arith)) t ht))) in
     omega (arith, at_most, at_least_lem, ap (λ (c : List ℕ). at c 3) (line_at 3598 (lit< tt)) ∙ seven)
   where
     kept : (a b : ℕ) → a ≤ 7 → b ≤ 7 → greatest a b ≤ 7

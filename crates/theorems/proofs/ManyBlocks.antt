@@ -13,7 +13,7 @@ use Rattle.masks.specs.Mask.{one, in_row}
 use Rattle.masked.specs.Calls.{block_at, blocks_checks, encrypt_blocks_of}
 use Rattle.masks.proofs.Row.{row_same}
 use Rattle.theorems.proofs.Records.{one_offsets}
-use Rattle.theorems.proofs.Result.{encrypt-published-is}
+use Rattle.theorems.proofs.Result.{encrypt_published_is}
 
 -- what is done matters only where every check holds
 done_same : {A : Type 0} (before x y : A) (checks : List Check) → (AllHold checks → x ≡ y) → answer checks before x ≡ answer checks before y
@@ -32,4 +32,4 @@ encrypt_blocks_is w b out offsets d =
     row_same _ _ (length b / 16)
     (λ k lt.
     ap (λ (r : ℕ × List ℕ). r.1)
-    (encrypt-published-is w (block_at k b) (block_at k out) (one (at offsets k)) d (one_offsets (at offsets k)) h.1.1.1.1.1.0)))
+    (encrypt_published_is w (block_at k b) (block_at k out) (one (at offsets k)) d (one_offsets (at offsets k)) h.1.1.1.1.1.0)))

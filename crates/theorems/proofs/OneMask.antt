@@ -65,8 +65,8 @@ module _ {P : Type 0} {mask : (ℕ → List ℕ) → P → List ℕ} {p : P} {i 
   pub own : ((K : ℕ → List ℕ) → mask K p ≡ K r) → OneMask mask p i
   own e = record { round = r; place = i; within = h; same = λ K. byte i (e K) }
 
-  pub moved-left : ((K : ℕ → List ℕ) → mask K p ≡ shift_rows (K r)) → OneMask mask p i
-  moved-left e = record { round = r; place = left i; within = left_lt i; same = λ K. byte i (e K) ∙ left_at (K r) i h }
+  pub moved_left : ((K : ℕ → List ℕ) → mask K p ≡ shift_rows (K r)) → OneMask mask p i
+  moved_left e = record { round = r; place = left i; within = left_lt i; same = λ K. byte i (e K) ∙ left_at (K r) i h }
 
-  pub moved-right : ((K : ℕ → List ℕ) → mask K p ≡ inv_shift_rows (K r)) → OneMask mask p i
-  moved-right e = record { round = r; place = right i; within = right_lt i; same = λ K. byte i (e K) ∙ right_at (K r) i h }
+  pub moved_right : ((K : ℕ → List ℕ) → mask K p ≡ inv_shift_rows (K r)) → OneMask mask p i
+  moved_right e = record { round = r; place = right i; within = right_lt i; same = λ K. byte i (e K) ∙ right_at (K r) i h }

@@ -38,9 +38,9 @@ module _ (p out pipes pipes' : List ℕ) (same : length pipes ≡ length pipes')
   abbrev j : ℕ
   j = pipe_of pipes p
 
-  pipe-same : pipe_of pipes p ≡ pipe_of pipes' p
+  pipe_same : pipe_of pipes p ≡ pipe_of pipes' p
   unfolding pipe_of
-  pipe-same = ap (place (pid p)) (table_same (pid_at pipes) (pid_at pipes') 7 pids)
+  pipe_same = ap (place (pid p)) (table_same (pid_at pipes) (pid_at pipes') 7 pids)
 
   list_same : are_pipes pipes ≡ are_pipes pipes'
   list_same =
@@ -51,25 +51,25 @@ module _ (p out pipes pipes' : List ℕ) (same : length pipes ≡ length pipes')
       below_same (λ i. not (eqb (pid_at pipes i) (pid_at pipes k))) (λ i. not (eqb (pid_at pipes' i) (pid_at pipes' k))) k
       (λ i li. ap₂ (λ (x y : ℕ). not (eqb x y)) (pids i (omega arith)) (pids k lt)))))
 
-  schedule-same : (odd : Bool) → schedule_at pipes j odd ≡ schedule_at pipes' j odd
-  schedule-same true = sym (part_of 240 242 498 (498 * j) pipes (omega arith)) ∙ ap (λ (l : List ℕ). take 240 (drop 242 l)) own ∙ part_of 240 242 498 (498 * j) pipes' (omega arith)
-  schedule-same false = sym (part_of 240 2 498 (498 * j) pipes (omega arith)) ∙ ap (λ (l : List ℕ). take 240 (drop 2 l)) own ∙ part_of 240 2 498 (498 * j) pipes' (omega arith)
+  schedule_same : (odd : Bool) → schedule_at pipes j odd ≡ schedule_at pipes' j odd
+  schedule_same true = sym (part_of 240 242 498 (498 * j) pipes (omega arith)) ∙ ap (λ (l : List ℕ). take 240 (drop 242 l)) own ∙ part_of 240 242 498 (498 * j) pipes' (omega arith)
+  schedule_same false = sym (part_of 240 2 498 (498 * j) pipes (omega arith)) ∙ ap (λ (l : List ℕ). take 240 (drop 2 l)) own ∙ part_of 240 2 498 (498 * j) pipes' (omega arith)
 
-  start-same : starting_block pipes j ≡ starting_block pipes' j
-  start-same = sym (part_of 16 482 498 (498 * j) pipes (omega arith)) ∙ ap (λ (l : List ℕ). take 16 (drop 482 l)) own ∙ part_of 16 482 498 (498 * j) pipes' (omega arith)
+  start_same : starting_block pipes j ≡ starting_block pipes' j
+  start_same = sym (part_of 16 482 498 (498 * j) pipes (omega arith)) ∙ ap (λ (l : List ℕ). take 16 (drop 482 l)) own ∙ part_of 16 482 498 (498 * j) pipes' (omega arith)
 
-  changed-same : (back : Bool) (bits : ℕ) (odd : Bool) → changed back bits odd pipes (pipe_of pipes p) p ≡ changed back bits odd pipes' (pipe_of pipes' p) p
+  changed_same : (back : Bool) (bits : ℕ) (odd : Bool) → changed back bits odd pipes (pipe_of pipes p) p ≡ changed back bits odd pipes' (pipe_of pipes' p) p
   unfolding changed
-  changed-same back bits odd =
-      (λ i. with_bits bits (with_payload (cond back (cbc_decrypted (inv_cipher 14 (schedule-same odd i)) (start-same i) (payload p)) (cbc_encrypted (cipher 14 (schedule-same odd i)) (start-same i) (payload p))) p))
-      ∙ ap (λ (k : ℕ). changed back bits odd pipes' k p) pipe-same
+  changed_same back bits odd =
+      (λ i. with_bits bits (with_payload (cond back (cbc_decrypted (inv_cipher 14 (schedule_same odd i)) (start_same i) (payload p)) (cbc_encrypted (cipher 14 (schedule_same odd i)) (start_same i) (payload p))) p))
+      ∙ ap (λ (k : ℕ). changed back bits odd pipes' k p) pipe_same
 
   pub own-scrambled : (odd : Bool) → scramble_of p out pipes odd ≡ scramble_of p out pipes' odd
   own-scrambled odd =
-      λ i. answer (are_packets p out ∷ is_synced p ∷ list_same i ∷ (not (leb (pipe-same i) 6) || field_right p else 21) ∷ (not (leb (pipe-same i) 6) || eqb (scrambling p) 0 else 23) ∷ []) out
-      (cond (leb (pipe-same i) 6 && long p) (changed-same false (parity odd) odd i) p)
+      λ i. answer (are_packets p out ∷ is_synced p ∷ list_same i ∷ (not (leb (pipe_same i) 6) || field_right p else 21) ∷ (not (leb (pipe_same i) 6) || eqb (scrambling p) 0 else 23) ∷ []) out
+      (cond (leb (pipe_same i) 6 && long p) (changed_same false (parity odd) odd i) p)
 
   pub own-descrambled : descramble_of p out pipes ≡ descramble_of p out pipes'
   own-descrambled =
-      λ i. answer (are_packets p out ∷ is_synced p ∷ list_same i ∷ (not (leb (pipe-same i) 6) || field_right p else 21) ∷ (not (leb (pipe-same i) 6) || (eqb (scrambling p) 0 || (leb 2 (scrambling p) && long p)) else 23) ∷ []) out
-      (cond (leb (pipe-same i) 6 && not (eqb (scrambling p) 0)) (changed-same true 0 (eqb (scrambling p) 3) i) p)
+      λ i. answer (are_packets p out ∷ is_synced p ∷ list_same i ∷ (not (leb (pipe_same i) 6) || field_right p else 21) ∷ (not (leb (pipe_same i) 6) || (eqb (scrambling p) 0 || (leb 2 (scrambling p) && long p)) else 23) ∷ []) out
+      (cond (leb (pipe_same i) 6 && not (eqb (scrambling p) 0)) (changed_same true 0 (eqb (scrambling p) 3) i) p)

@@ -11,13 +11,13 @@ use lib.ListN.{length}
 use Rattle.aes.specs.Byte.{place, table}
 use Rattle.aes.specs.State.{at}
 use Rattle.aes.specs.Reply.{Check, ◌else◌, answer}
-use Rattle.aes.proofs.Replies.{AllHold, telling, done-holds, is_true}
+use Rattle.aes.proofs.Replies.{AllHold, telling, done_holds, is_true}
 use Rattle.packet.specs.Packet.{pid, scrambling, field_right, start, long, parity, pid_at, pipe_of, is_listed, scrambled, descrambled}
 use Rattle.packet.specs.Calls.{first_checks, later_checks, written, answered_of, call_of, scramble_of, descramble_of}
 use Rattle.packet.proofs.Checked.{held_sizes}
 use Rattle.packet.proofs.Splice.{low}
 use Rattle.packet.proofs.Outcome.{unlisted, clear, opened}
-use Rattle.theorems.proofs.Restored.{sent, sent-size, sent-bits, before-start, sent-pid, sent-start, sent-field, sent_is, restored}
+use Rattle.theorems.proofs.Restored.{sent, sent_size, sent_bits, before-start, sent_pid, sent_start, sent_field, sent_is, restored}
 
 -- past checks that hold, those behind them decide
 past : {A : Type 0} (before done : A) (cs more : List Check) → AllHold cs → answer (cs ++ more) before done ≡ answer more before done
@@ -35,11 +35,11 @@ module _ (p out pipes : List ℕ) (h : AllHold (first_checks p out pipes)) (un :
   copied : (back odd : Bool) → call_of back p out pipes odd ≡ (0, p)
   copied back odd = past_first back p out pipes odd h ∙ sym (unlisted p out pipes odd refl back (nleb→lt (pipe_of pipes p) 6 (subst (λ (b : Bool). T (not b)) (sym un) tt)))
 
-  pub unlisted-scrambled : (odd : Bool) → scramble_of p out pipes odd ≡ (0, p)
-  unlisted-scrambled odd = copied false odd
+  pub unlisted_scrambled : (odd : Bool) → scramble_of p out pipes odd ≡ (0, p)
+  unlisted_scrambled odd = copied false odd
 
-  pub unlisted-descrambled : descramble_of p out pipes ≡ (0, p)
-  unlisted-descrambled = copied true false
+  pub unlisted_descrambled : descramble_of p out pipes ≡ (0, p)
+  unlisted_descrambled = copied true false
 
 -- the first checks, of another packet of the same length and sync
 other_first : (p q out out' pipes : List ℕ) → AllHold (first_checks p out pipes) → length q ≡ 188 → length out' ≡ 188 → at q 0 ≡ at p 0 → AllHold (first_checks q out' pipes)
@@ -49,13 +49,13 @@ other_first p q out out' pipes h lq lo sync =
 
 -- Descrambling restores every packet that scrambling accepted.
 module _ (p pipes : List ℕ) (hp : (i : ℕ) → at p i < 256) (hl : (i : ℕ) → at pipes i < 256) (out out' : List ℕ) (room : length out' ≡ 188) (odd : Bool) where
-  pipe-same : (q : List ℕ) → pid q ≡ pid p → pipe_of pipes q ≡ pipe_of pipes p
+  pipe_same : (q : List ℕ) → pid q ≡ pid p → pipe_of pipes q ≡ pipe_of pipes p
   unfolding pipe_of
-  pipe-same q e = ap (λ (x : ℕ). place x (table (pid_at pipes) 7)) e
+  pipe_same q e = ap (λ (x : ℕ). place x (table (pid_at pipes) 7)) e
 
-  parity-two : (o : Bool) → 2 ≤ parity o
-  parity-two true = lit≤ tt
-  parity-two false = lit≤ tt
+  parity_two : (o : Bool) → 2 ≤ parity o
+  parity_two true = lit≤ tt
+  parity_two false = lit≤ tt
 
   abbrev sent_of : List ℕ
   sent_of = cond (is_listed pipes p && long p) (scrambled pipes (pipe_of pipes p) odd p) p
@@ -75,26 +75,26 @@ module _ (p pipes : List ℕ) (hp : (i : ℕ) → at p i < 256) (hl : (i : ℕ) 
         let lp : length p ≡ 188 = (held_sizes p out pipes h).packet in
         let ll : length pipes ≡ 3486 = (held_sizes p out pipes h).list in
         let q : List ℕ = sent pipes p k odd lp hp ll hl (seven li) z near in
-        let same : pipe_of pipes q ≡ k = pipe-same q (sent-pid pipes p k odd lp hp ll hl (seven li) z near) in
-        let bits : scrambling q ≡ parity odd = sent-bits pipes p k odd lp hp ll hl (seven li) z near in
-        let two : 2 ≤ scrambling q = rw bits (parity-two odd) in
+        let same : pipe_of pipes q ≡ k = pipe_same q (sent_pid pipes p k odd lp hp ll hl (seven li) z near) in
+        let bits : scrambling q ≡ parity odd = sent_bits pipes p k odd lp hp ll hl (seven li) z near in
+        let two : 2 ≤ scrambling q = rw bits (parity_two odd) in
         let n0 : scrambling q ≡ 0 → ⊥ = λ x. absurd (omega (arith, two, x)) in
         let lt : pipe_of pipes q < 7 = rw same (seven li) in
-        let fi' : field_right q ≡ true = sent-field pipes p k odd lp hp ll hl (seven li) z near ∙ fi in
-        let g' : long q ≡ true = ap (λ (x : ℕ). leb 16 (188 - x)) (sent-start pipes p k odd lp hp ll hl (seven li) z near) ∙ e in
+        let fi' : field_right q ≡ true = sent_field pipes p k odd lp hp ll hl (seven li) z near ∙ fi in
+        let g' : long q ≡ true = ap (λ (x : ℕ). leb 16 (188 - x)) (sent_start pipes p k odd lp hp ll hl (seven li) z near) ∙ e in
         let first : AllHold (first_checks q out' pipes) =
-        other_first p q out out' pipes h (sent-size pipes p k odd lp hp ll hl (seven li) z near) room (before-start pipes p k odd lp hp ll hl (seven li) z near 0 (omega (arith, low p)) (λ x. absurd (omega (arith, x)))) in
+        other_first p q out out' pipes h (sent_size pipes p k odd lp hp ll hl (seven li) z near) room (before-start pipes p k odd lp hp ll hl (seven li) z near 0 (omega (arith, low p)) (λ x. absurd (omega (arith, x)))) in
         let s : sent_of ≡ q = rw (li, e) (sent_is pipes p k odd lp hp ll hl (seven li) z near) in
         ap (λ (x : List ℕ). descramble_of x out' pipes) s ∙ past_first true q out' pipes false first
         ∙ sym (opened q out' pipes false refl lt fi' refl refl n0 (ap not (ap₂ ◌&&◌ (le-leb 2 (scrambling q) two) g')) refl) ∙ ap (λ (x : List ℕ). (0, x)) (ap (λ (j : ℕ). descrambled pipes j q) same ∙ ap (descrambled pipes k) (sym (sent_is pipes p k odd lp hp ll hl (seven li) z near)) ∙ restored pipes p k odd lp hp ll hl (seven li) z near)
 
-    by-list : (x : Bool) → is_listed pipes p ≡ x → descramble_of sent_of out' pipes ≡ (0, p)
-    by-list false e = let s : sent_of ≡ p = rw e in ap (λ (x : List ℕ). descramble_of x out' pipes) s ∙ unlisted-descrambled p out' pipes again e
-    by-list true e =
+    by_list : (x : Bool) → is_listed pipes p ≡ x → descramble_of sent_of out' pipes ≡ (0, p)
+    by_list false e = let s : sent_of ≡ p = rw e in ap (λ (x : List ℕ). descramble_of x out' pipes) s ∙ unlisted_descrambled p out' pipes again e
+    by_list true e =
         by_length e (is_true (field_right p) (subst (λ (x : Bool). T (not x || field_right p)) e f)) (eqb→eq (scrambling p) 0 (subst (λ (x : Bool). T (not x || eqb (scrambling p) 0)) e c)) (long p) refl
 
-  pub restored-call : (scramble_of p out pipes odd).0 ≡ 0 → descramble_of (scramble_of p out pipes odd).1 out' pipes ≡ (0, p)
+  pub restored_call : (scramble_of p out pipes odd).0 ≡ 0 → descramble_of (scramble_of p out pipes odd).1 out' pipes ≡ (0, p)
   unfolding AllHold telling
-  restored-call done =
-      let d = done-holds out sent_of (first_checks p out pipes ++ later_checks false pipes p) tt done in
-      ap (λ (x : List ℕ). descramble_of x out' pipes) d.1 ∙ by-list (d.0.0, (d.0.1.0, (d.0.1.1.0, tt))) d.0.1.1.1.0 d.0.1.1.1.1.0 (is_listed pipes p) refl
+  restored_call done =
+      let d = done_holds out sent_of (first_checks p out pipes ++ later_checks false pipes p) tt done in
+      ap (λ (x : List ℕ). descramble_of x out' pipes) d.1 ∙ by_list (d.0.0, (d.0.1.0, (d.0.1.1.0, tt))) d.0.1.1.1.0 d.0.1.1.1.1.0 (is_listed pipes p) refl

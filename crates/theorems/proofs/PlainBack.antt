@@ -11,7 +11,7 @@ use Rattle.aes.specs.Cipher.{inv_rounds, inv_cipher}
 use Rattle.aes.specs.Record.{last}
 use Rattle.runs.specs.Back.{Back, block, keyed, unshifted, corrected, unboxed, unmixed, restored, uncovered, six, closing, sixes, back_points}
 use Rattle.theorems.specs.BackTable.{plain_back, plain_back_record, inv_begun, inv_cipher_at}
-use Rattle.theorems.proofs.Cover.{Linked, linked-rounds, followed, last-map}
+use Rattle.theorems.proofs.Cover.{Linked, linked_rounds, followed, last-map}
 
 one_round : (w s : List ℕ) (m : ℕ) → inv_rounds w s (suc m) ≡ inv_rounds w (inv_mix_columns (add_round_key (inv_sub_bytes (inv_shift_rows s)) (round_key w (suc m)))) m
 unfolding inv_rounds
@@ -19,13 +19,13 @@ one_round w s m = refl
 
 module _ (nr : ℕ) (w input : List ℕ) where
   -- INVCIPHER goes through the states that its rounds begin with: from each of them the rounds that are left end as all of them do
-  pub rounds-left : (r : ℕ) → r ≤ nr - 1 → inv_rounds w (inv_begun nr w input r) (nr - 1 - r) ≡ inv_rounds w (inv_begun nr w input 0) (nr - 1)
+  pub rounds_left : (r : ℕ) → r ≤ nr - 1 → inv_rounds w (inv_begun nr w input r) (nr - 1 - r) ≡ inv_rounds w (inv_begun nr w input 0) (nr - 1)
   unfolding inv_begun
-  rounds-left zero h = rw sub-zero
-  rounds-left (suc r) h =
+  rounds_left zero h = rw sub-zero
+  rounds_left (suc r) h =
       let left : nr - 1 - r ≡ suc (nr - 1 - suc r) = omega arith in
       let key : nr - suc r ≡ suc (nr - 1 - suc r) = omega arith in
-      rw key (sym (ap (inv_rounds w (inv_begun nr w input r)) left ∙ one_round w (inv_begun nr w input r) (nr - 1 - suc r)) ∙ rounds-left r (omega arith))
+      rw key (sym (ap (inv_rounds w (inv_begun nr w input r)) left ∙ one_round w (inv_begun nr w input r) (nr - 1 - suc r)) ∙ rounds_left r (omega arith))
 
   -- and the state after its last key is what it gives
   finished : inv_cipher_at nr w input (keyed (suc (nr - 1))) ≡ inv_cipher nr w input
@@ -33,7 +33,7 @@ module _ (nr : ℕ) (w input : List ℕ) where
   finished =
       let none : nr - 1 - (nr - 1) ≡ 0 = omega arith in
       let key : nr - suc (nr - 1) ≡ 0 = omega arith in
-      rw (key, ← rounds-left (nr - 1) (omega arith), none)
+      rw (key, ← rounds_left (nr - 1) (omega arith), none)
 
   -- the state before each point
   before : Back → List ℕ
@@ -65,17 +65,17 @@ module _ (nr : ℕ) (w input : List ℕ) where
     refl,
     (
       refl,
-      linked-rounds before (inv_cipher_at nr w input) sixes six refl (λ n. refl) (inv_begun nr w input) (λ n. (refl, (refl, (refl, (refl, (refl, (refl, tt))))))) (λ n. refl)
+      linked_rounds before (inv_cipher_at nr w input) sixes six refl (λ n. refl) (inv_begun nr w input) (λ n. (refl, (refl, (refl, (refl, (refl, (refl, tt))))))) (λ n. refl)
           (nr - 1) (closing (nr - 1)) (refl, (refl, (refl, (refl, (sym finished, tt))))),
     ),
   )
 
   -- every state of the plain decryption is that of INVCIPHER at its point, and the last what INVCIPHER gives
-  pub back-record-is : plain_back_record nr w input ≡ map (inv_cipher_at nr w input) (back_points nr)
+  pub back_record_is : plain_back_record nr w input ≡ map (inv_cipher_at nr w input) (back_points nr)
   unfolding plain_back_record back_points
-  back-record-is = followed (plain_back nr w) before (inv_cipher_at nr w input) step (back_points nr) input linked
+  back_record_is = followed (plain_back nr w) before (inv_cipher_at nr w input) step (back_points nr) input linked
 
-  pub back-record-last : last input (plain_back_record nr w input) ≡ inv_cipher nr w input
+  pub back_record_last : last input (plain_back_record nr w input) ≡ inv_cipher nr w input
   unfolding back_points last inv_cipher_at
-  back-record-last =
-      ap (last input) back-record-is ∙ last-map (inv_cipher_at nr w input) (block ∷ keyed 0 ∷ sixes (nr - 1)) (closing (nr - 1)) input
+  back_record_last =
+      ap (last input) back_record_is ∙ last-map (inv_cipher_at nr w input) (block ∷ keyed 0 ∷ sixes (nr - 1)) (closing (nr - 1)) input

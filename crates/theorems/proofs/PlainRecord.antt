@@ -7,7 +7,7 @@ use native.Mathlib.Omega.{arith}
 use lib.ListN.{get_or}
 use Rattle.aes.specs.Cipher.{rounds, cipher}
 use Rattle.aes.specs.Record.{Point, block, keyed, boxed, shifted, mixed, compensated, closed, uncovered, whole, final, wholes, points, run, last, plain, plain_record, cipher_at}
-use Rattle.theorems.proofs.Cover.{Linked, linked-rounds, followed, last-map}
+use Rattle.theorems.proofs.Cover.{Linked, linked_rounds, followed, last-map}
 
 module _ (w input : List ℕ) where
   -- the state that key n is added to
@@ -42,7 +42,7 @@ module _ (w input : List ℕ) where
   unfolding wholes last before entered cipher_at
   linked n = (
     refl,
-    linked-rounds before (cipher_at w input) wholes whole refl (λ n. refl) entered (λ n. (refl, (refl, (refl, (refl, (refl, tt)))))) (λ n. refl) n (final n)
+    linked_rounds before (cipher_at w input) wholes whole refl (λ n. refl) entered (λ n. (refl, (refl, (refl, (refl, (refl, tt)))))) (λ n. refl) n (final n)
         (refl, (refl, (refl, (refl, (refl, tt))))),
   )
 
@@ -52,12 +52,12 @@ module _ (w input : List ℕ) where
   record_is nr = followed (plain w) before (cipher_at w input) step (points nr) input (linked (nr - 1))
 
   -- the first is the input, and the last what CIPHER gives
-  pub record-first : (nr : ℕ) → get_or (plain_record nr w input) 0 [] ≡ input
+  pub record_first_lem : (nr : ℕ) → get_or (plain_record nr w input) 0 [] ≡ input
   unfolding plain_record points run plain
-  record-first nr = refl
+  record_first_lem nr = refl
 
-  pub record-last : (n : ℕ) → last input (plain_record (suc n) w input) ≡ cipher (suc n) w input
+  pub record_last : (n : ℕ) → last input (plain_record (suc n) w input) ≡ cipher (suc n) w input
   unfolding points last cipher_at
-  record-last n =
+  record_last n =
       let e : suc n - 1 ≡ n = omega arith in
       ap (last input) (record_is (suc n)) ∙ rw e (last-map (cipher_at w input) (block ∷ wholes n) (final n) input)

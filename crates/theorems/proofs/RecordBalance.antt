@@ -23,19 +23,19 @@ use Rattle.beside.specs.Fitness.{pattern, count, fitness_of}
 use Rattle.theorems.proofs.Records.{one_offsets, on_offsets, next_one}
 use Rattle.theorems.proofs.Balancing.{upper_unbalanced, how_many-append}
 use Rattle.theorems.proofs.RoundPoints.{mixed_at}
-use Rattle.theorems.proofs.OneMask.{OneMask, own, moved-left, one_balance}
+use Rattle.theorems.proofs.OneMask.{OneMask, own, moved_left, one_balance}
 use Rattle.theorems.proofs.Fit.{fit-balanced, published-fit}
-use Rattle.theorems.proofs.RecordStates.{published-length, record-byte}
+use Rattle.theorems.proofs.RecordStates.{published-length, record_byte}
 
 one_of : (p : Point) (i : ℕ) → T (single p) → i < 16 → OneMask mask_by p i
 unfolding single mask_by
 one_of block i t h = own 0 h (λ K. refl)
 one_of (keyed r) i t h = own r h (λ K. refl)
 one_of (boxed r) i t h = own (suc r) h (λ K. refl)
-one_of (shifted r) i t h = moved-left (suc r) h (λ K. refl)
+one_of (shifted r) i t h = moved_left (suc r) h (λ K. refl)
 one_of (mixed r) i t h = absurd t
 one_of (compensated r) i t h = own (suc r) h (λ K. refl)
-one_of (closed r) i t h = moved-left (suc r) h (λ K. refl)
+one_of (closed r) i t h = moved_left (suc r) h (λ K. refl)
 one_of (uncovered r) i t h = absurd t
 
 -- for every table that the fitness test passes
@@ -44,7 +44,7 @@ pub fit_balance : (M : List ℕ) → (fitness_of M).1 ≡ 1 → (v : List ℕ) (
     → Balanced (λ o. at (record_masked_of w b M (advanced v o) d states).1 (16 * q + i))
 fit_balance M fit v d td w b states lw lb ls q i hq t hi =
     one_balance M (fit-balanced M fit).1 v d (one_of (get_or (points (rounds_of w)) q block) i t hi) _ (at (cipher_at w b (get_or (points (rounds_of w)) q block)) i)
-    (λ o h. record-byte w b states lw lb ls M (fit-balanced M fit).0 (advanced v o) (on_offsets v o) d td q i hq hi)
+    (λ o h. record_byte w b states lw lb ls M (fit-balanced M fit).0 (advanced v o) (on_offsets v o) d td q i hq hi)
 
 -- one mask covers each byte at 4 n + 1 of the 5 n + 1 points of n rounds
 how_many-wholes : (k : ℕ) → how_many single (wholes k) ≡ 4 * k
@@ -66,18 +66,18 @@ mixture = refl
 
 -- the published masks, with any step that is taken
 module _ (d : ℕ) (t : T (taken d)) (w b states : List ℕ) (lw : scheduled (length w) ≡ true) (lb : length b ≡ 16) (ls : length states ≡ 16 * (5 * rounds_of w + 1)) where
-  pub published-balance : (v : List ℕ) (q i : ℕ) → q < 5 * rounds_of w + 1 → T (single (get_or (points (rounds_of w)) q block)) → i < 16
+  pub published_balance : (v : List ℕ) (q i : ℕ) → q < 5 * rounds_of w + 1 → T (single (get_or (points (rounds_of w)) q block)) → i < 16
       → Balanced (λ o. at (record_masked_of w b published (advanced v o) d states).1 (16 * q + i))
-  published-balance v = fit_balance published (ap (λ (r : ℕ × ℕ). r.1) published-fit) v d t w b states lw lb ls
+  published_balance v = fit_balance published (ap (λ (r : ℕ × ℕ). r.1) published-fit) v d t w b states lw lb ls
 
   -- after the first MIXCOLUMNS, at point 4, balance fails over the records of one offset, for every schedule and block
-  pub mixture-unbalanced : Balanced (λ o. at (record_masked_of w b published (one o) d states).1 (16 * 4 + 0)) → ⊥
+  pub mixture_unbalanced : Balanced (λ o. at (record_masked_of w b published (one o) d states).1 (16 * 4 + 0)) → ⊥
   unfolding mask_by
-  mixture-unbalanced =
+  mixture_unbalanced =
       let few = some_rounds (length w) lw in
       let four : 4 < 5 * rounds_of w + 1 = omega (arith, few.0) in
       let here : get_or (points (rounds_of w)) 4 block ≡ mixed 0 = mixed_at (rounds_of w) 0 (more_rounds (length w) lw) in
       upper_unbalanced (λ o. at (record_masked_of w b published (one o) d states).1 (16 * 4 + 0)) mixture_at (at (cipher_at w b (mixed 0)) 0) d 3
-      (λ o h. record-byte w b states lw lb ls published published-length (one o) (one_offsets o) d t 4 0 four (lit< tt)
+      (λ o h. record_byte w b states lw lb ls published published-length (one o) (one_offsets o) d t 4 0 four (lit< tt)
       ∙ ap (λ (p : Point). at (cipher_at w b p) 0 ⊕ at (mask_at published (one o) d p) 0) here ∙ ap (λ (m : List ℕ). at (cipher_at w b (mixed 0)) 0 ⊕ at (mix_columns (shift_rows m)) 0) (next_one published o d))
       mixture (λ e. omega arith)

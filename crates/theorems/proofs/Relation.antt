@@ -17,7 +17,7 @@ use Rattle.runs.specs.Run.{covered, masked_record}
 use Rattle.masks.specs.MaskTable.{stepping, mask_at}
 use Rattle.theorems.specs.Summed.{summed}
 use Rattle.theorems.proofs.Cover.{at-summed, map_at}
-use Rattle.theorems.proofs.AnyMasks.{covered_by, relation-any}
+use Rattle.theorems.proofs.AnyMasks.{covered_by, relation_any}
 
 pub plain_at : (w b : List ℕ) (nr q : ℕ) → q < length (points nr) → get_or (plain_record nr w b) q [] ≡ cipher_at w b (get_or (points nr) q block)
 plain_at w b nr q h = rw (record_is w b nr) (map_at (cipher_at w b) (points nr) q block h)
@@ -48,31 +48,31 @@ boxes_are S M v d r s =
     (λ i h. label_at S M v d r (at s i) i h)
 
 module _ (M v : List ℕ) (d : ℕ) where
-  covered-is : (w : List ℕ) (p : Point) (s : List ℕ) → covered M v d w p s ≡ covered_by (stepping M v d) w p s
+  covered_is : (w : List ℕ) (p : Point) (s : List ℕ) → covered M v d w p s ≡ covered_by (stepping M v d) w p s
   unfolding covered covered_by compensation sub_bytes add_round_key
-  covered-is w block s = rw mul-zero
-  covered-is w (keyed r) s = refl
-  covered-is w (boxed r) s = boxes_are s_box M v d r s
-  covered-is w (shifted r) s = refl
-  covered-is w (mixed r) s = refl
-  covered-is w (compensated r) s = refl
-  covered-is w (closed r) s = refl
-  covered-is w (uncovered r) s = refl
+  covered_is w block s = rw mul-zero
+  covered_is w (keyed r) s = refl
+  covered_is w (boxed r) s = boxes_are s_box M v d r s
+  covered_is w (shifted r) s = refl
+  covered_is w (mixed r) s = refl
+  covered_is w (compensated r) s = refl
+  covered_is w (closed r) s = refl
+  covered_is w (uncovered r) s = refl
 
   module _ (w : List ℕ) (nr : ℕ) (b : List ℕ) where
     -- the states of a masked run are those of the plain run, each under the mask of its point
     pub relation : masked_record nr M v d w b ≡ summed (plain_record nr w b) (map (mask_at M v d) (points nr))
     unfolding masked_record
     relation =
-        ap (λ (f : Point → List ℕ → List ℕ). run f b (points nr)) (fun_ext (λ p. fun_ext (λ s. covered-is w p s)))
-        ∙ relation-any (stepping M v d) w nr b
+        ap (λ (f : Point → List ℕ → List ℕ). run f b (points nr)) (fun_ext (λ p. fun_ext (λ s. covered_is w p s)))
+        ∙ relation_any (stepping M v d) w nr b
 
     -- so state q is plain state q under the mask of point q; and that of CIPHER
-    pub relation-at : (q : ℕ) → q < length (points nr)
+    pub relation_at : (q : ℕ) → q < length (points nr)
         → get_or (masked_record nr M v d w b) q [] ≡ get_or (plain_record nr w b) q [] ⊞ mask_at M v d (get_or (points nr) q block)
     unfolding plain_record
-    relation-at q h = rw relation (at-summed (plain w) (mask_at M v d) block (points nr) b q h)
+    relation_at q h = rw relation (at-summed (plain w) (mask_at M v d) block (points nr) b q h)
 
-    pub relation-cipher : (q : ℕ) → q < length (points nr)
+    pub relation_cipher : (q : ℕ) → q < length (points nr)
         → get_or (masked_record nr M v d w b) q [] ≡ cipher_at w b (get_or (points nr) q block) ⊞ mask_at M v d (get_or (points nr) q block)
-    relation-cipher q h = relation-at q h ∙ rw (plain_at w b nr q h)
+    relation_cipher q h = relation_at q h ∙ rw (plain_at w b nr q h)

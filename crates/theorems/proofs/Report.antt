@@ -15,7 +15,7 @@ use Rattle.aes.specs.State.{at}
 use Rattle.aes.proofs.Below.{under, below_all}
 use Rattle.aes.proofs.Listed.{table_at, table_same}
 use Rattle.aes.proofs.Replies.{is_true}
-use Rattle.masks.proofs.Row.{row-at}
+use Rattle.masks.proofs.Row.{row_at_lem}
 use Rattle.beside.specs.Fitness.{patterns, count, even, balanced, fit, fitness_of}
 use Rattle.beside.specs.Report.{row_point, count_in, inside, counts_of, values_of, mixed_over, mask_count_of, triples, row_at, byte_at, bit_at, counts_at, all_counts}
 use Rattle.beside.proofs.Alike.{alike, within}
@@ -25,15 +25,15 @@ use Rattle.theorems.proofs.Fit.{fit-balanced}
 
 -- the counts by the masks that lie over the byte, and by the definition in any round and with any step
 module _ (M : List ℕ) (row i x y z : ℕ) (in-it : inside row i x y z ≡ true) where
-  over-values : (d r t : ℕ) → count_in M d row r i x y z t ≡ count t (patterns (at (values_of M row i)) x y z)
-  over-values d r t =
+  over_values : (d r t : ℕ) → count_in M d row r i x y z t ≡ count t (patterns (at (values_of M row i)) x y z)
+  over_values d r t =
       let w = within row i x y z in-it in
       alike M x y z t d row r i w.low w.high w.byte
 
-  pub counts-values : counts_of M row i x y z ≡ table (λ t. count t (patterns (at (values_of M row i)) x y z)) 8
-  counts-values =
+  pub counts_values : counts_of M row i x y z ≡ table (λ t. count t (patterns (at (values_of M row i)) x y z)) 8
+  counts_values =
       table_same (λ t. cond (inside row i x y z) (count_in M 1 row 0 i x y z t) 0) (λ t. count t (patterns (at (values_of M row i)) x y z)) 8
-      (λ t h. ap (λ (b : Bool). cond b (count_in M 1 row 0 i x y z t) 0) in-it ∙ over-values 1 0 t)
+      (λ t h. ap (λ (b : Bool). cond b (count_in M 1 row 0 i x y z t) 0) in-it ∙ over_values 1 0 t)
 
 not_mixed : (row r : ℕ) → T (single (row_point row r)) → row ≡ 5 → ⊥
 unfolding single row_point
@@ -42,15 +42,15 @@ not_mixed row r s e = subst (λ (n : ℕ). T (single (row_point n r))) e s
 module _ (M : List ℕ) (row i x y z t : ℕ) (in-it : inside row i x y z ≡ true) (ht : t < 8) where
   by_values : at (counts_of M row i x y z) t ≡ count t (patterns (at (values_of M row i)) x y z)
   by_values =
-      ap (λ (l : List ℕ). at l t) (counts-values M row i x y z in-it)
+      ap (λ (l : List ℕ). at l t) (counts_values M row i x y z in-it)
       ∙ table_at (λ t. count t (patterns (at (values_of M row i)) x y z)) 8 t ht
 
-  any-round : (d r : ℕ) → at (counts_of M row i x y z) t ≡ count_in M d row r i x y z t
-  any-round d r = by_values ∙ sym (over-values M row i x y z in-it d r t)
+  any_round : (d r : ℕ) → at (counts_of M row i x y z) t ≡ count_in M d row r i x y z t
+  any_round d r = by_values ∙ sym (over_values M row i x y z in-it d r t)
 
   -- What the call gives is the count in any round r and with any step d.
-  pub count-any-round : length M ≡ 16 → (d r : ℕ) → mask_count_of M row i x y z t ≡ (0, count_in M d row r i x y z t)
-  count-any-round l d r = simp (eq-eqb (length M) 16 l) (ap (λ (c : ℕ). (0, c)) (any-round d r))
+  pub count_any_round : length M ≡ 16 → (d r : ℕ) → mask_count_of M row i x y z t ≡ (0, count_in M d row r i x y z t)
+  count_any_round l d r = simp (eq-eqb (length M) 16 l) (ap (λ (c : ℕ). (0, c)) (any_round d r))
 
   -- Of a fit table it is two in every row under the balance.
   two : (r : ℕ) → (fitness_of M).1 ≡ 1 → T (single (row_point row r)) → at (counts_of M row i x y z) t ≡ 2
@@ -58,7 +58,7 @@ module _ (M : List ℕ) (row i x y z t : ℕ) (in-it : inside row i x y z ≡ tr
       let w = within row i x y z in-it in
       by_values
       ∙ ap (λ (b : Bool). count t (patterns (at (cond b (mixed_over M i) M)) x y z)) (ne_eqb row 5 (not_mixed row r s))
-      ∙ (fit-balanced M fit).1.twice x y z t w.first w.second w.third (rising_different x y z w.rises w.rises-on) ht
+      ∙ (fit-balanced M fit).1.twice x y z t w.first w.second w.third (rising_different x y z w.rises w.rises_on) ht
 
   pub fit-even : (r : ℕ) → (fitness_of M).1 ≡ 1 → T (single (row_point row r)) → mask_count_of M row i x y z t ≡ (0, 2)
   fit-even r fit s = simp (eq-eqb (length M) 16 (fit-balanced M fit).0) (ap (λ (c : ℕ). (0, c)) (two r fit s))
@@ -140,10 +140,10 @@ line_inside n h =
 module _ (M : List ℕ) (n t : ℕ) (h : n < 6272) (ht : t < 8) where
   written : at (all_counts M) (8 * n + t) ≡ at (counts_of M (row_at n) (byte_at n) (bit_at n 0) (bit_at n 1) (bit_at n 2)) t
   unfolding counts_at table
-  written = row-at (counts_at M) 8 (λ k. refl) 6272 n t h ht
+  written = row_at_lem (counts_at M) 8 (λ k. refl) 6272 n t h ht
 
-  pub line-any-round : (d r : ℕ) → at (all_counts M) (8 * n + t) ≡ count_in M d (row_at n) r (byte_at n) (bit_at n 0) (bit_at n 1) (bit_at n 2) t
-  line-any-round d r = written ∙ any-round M (row_at n) (byte_at n) (bit_at n 0) (bit_at n 1) (bit_at n 2) t (line_inside n h) ht d r
+  pub line_any_round : (d r : ℕ) → at (all_counts M) (8 * n + t) ≡ count_in M d (row_at n) r (byte_at n) (bit_at n 0) (bit_at n 1) (bit_at n 2) t
+  line_any_round d r = written ∙ any_round M (row_at n) (byte_at n) (bit_at n 0) (bit_at n 1) (bit_at n 2) t (line_inside n h) ht d r
 
-  pub line-even : (r : ℕ) → (fitness_of M).1 ≡ 1 → T (single (row_point (row_at n) r)) → at (all_counts M) (8 * n + t) ≡ 2
-  line-even r fit s = written ∙ two M (row_at n) (byte_at n) (bit_at n 0) (bit_at n 1) (bit_at n 2) t (line_inside n h) ht r fit s
+  pub line_even : (r : ℕ) → (fitness_of M).1 ≡ 1 → T (single (row_point (row_at n) r)) → at (all_counts M) (8 * n + t) ≡ 2
+  line_even r fit s = written ∙ two M (row_at n) (byte_at n) (bit_at n 0) (bit_at n 1) (bit_at n 2) t (line_inside n h) ht r fit s

@@ -30,7 +30,7 @@ use Rattle.theorems.specs.Summed.{summed}
 use Rattle.theorems.specs.Ways.{Offsets}
 use Rattle.masked.specs.Calls.{encrypt_masked_of, encrypt_published_of}
 use Rattle.theorems.proofs.CallLaws.{cipher_size}
-use Rattle.theorems.proofs.PlainRecord.{record-last}
+use Rattle.theorems.proofs.PlainRecord.{record_last}
 use Rattle.theorems.proofs.Cover.{last-map, last-summed}
 use Rattle.theorems.proofs.Relation.{relation}
 use Rattle.theorems.proofs.Records.{low_offsets}
@@ -53,7 +53,7 @@ add_none s l = simp xor_zero (state-at s l)
 pub masked_cipher_lem : (M v : List ℕ) (d : ℕ) (w : List ℕ) (n : ℕ) (b : List ℕ) → masked_cipher (suc n) M v d w b ≡ cipher (suc n) w b
 unfolding masked_cipher
 masked_cipher_lem M v d w n b =
-    rw (relation M v d w (suc n) b, last-state M v d w (suc n) b, record-last w b n, last-mask M v d n b)
+    rw (relation M v d w (suc n) b, last-state M v d w (suc n) b, record_last w b n, last-mask M v d n b)
     (add_none (cipher (suc n) w b) (cipher_size (suc n) w b))
 
 pub offset_free : (M M' v v' : List ℕ) (d d' : ℕ) (w : List ℕ) (n : ℕ) (b : List ℕ)
@@ -102,24 +102,24 @@ zero_masks v d w nr b l = relation bare v d w nr b ∙ summed-bare v d w (points
 
 -- At the calls: whatever the masks, the offsets and the step are, they write what the plain call writes.
 module _ (w : List ℕ) where
-  same-cipher : scheduled (length w) ≡ true → (M v : List ℕ) (d : ℕ) (b : List ℕ) → masked_cipher (rounds_of w) M v d w b ≡ cipher (rounds_of w) w b
-  same-cipher is M v d b =
+  same_cipher : scheduled (length w) ≡ true → (M v : List ℕ) (d : ℕ) (b : List ℕ) → masked_cipher (rounds_of w) M v d w b ≡ cipher (rounds_of w) w b
+  same_cipher is M v d b =
       let pos = (some_rounds (length w) is).0 in
       let e : suc (rounds_of w - 1) ≡ rounds_of w = omega (arith, pos) in
       subst (λ (n : ℕ). masked_cipher n M v d w b ≡ cipher n w b) e (masked_cipher_lem M v d w (rounds_of w - 1) b)
 
   -- where the schedule is refused, so are both
-  if-scheduled : {A : Type 0} (x y z : A) → (scheduled (length w) ≡ true → x ≡ y) → cond (scheduled (length w)) x z ≡ cond (scheduled (length w)) y z
-  if-scheduled x y z h = by-case (scheduled (length w)) refl
+  if_scheduled : {A : Type 0} (x y z : A) → (scheduled (length w) ≡ true → x ≡ y) → cond (scheduled (length w)) x z ≡ cond (scheduled (length w)) y z
+  if_scheduled x y z h = by_case (scheduled (length w)) refl
     where
-      by-case : (q : Bool) → scheduled (length w) ≡ q → cond (scheduled (length w)) x z ≡ cond (scheduled (length w)) y z
-      by-case true q = ap (λ u. cond (scheduled (length w)) u z) (h q)
-      by-case false q = rw q refl
+      by_case : (q : Bool) → scheduled (length w) ≡ q → cond (scheduled (length w)) x z ≡ cond (scheduled (length w)) y z
+      by_case true q = ap (λ u. cond (scheduled (length w)) u z) (h q)
+      by_case false q = rw q refl
 
-  pub encrypt-masked-is : (b out M v : List ℕ) (d : ℕ) → length M ≡ 16 → Offsets v → T (taken d) → encrypt_masked_of w b out M v d 0 ≡ encrypt_of w b out
-  encrypt-masked-is b out M v d lm h t =
-      if-scheduled _ _ _ (λ is. simp (eq-eqb (length M) 16 lm, eq-eqb (length v) 16 h.0, low_offsets v h, is_true (taken d) t, same-cipher is M v d b))
+  pub encrypt_masked_is : (b out M v : List ℕ) (d : ℕ) → length M ≡ 16 → Offsets v → T (taken d) → encrypt_masked_of w b out M v d 0 ≡ encrypt_of w b out
+  encrypt_masked_is b out M v d lm h t =
+      if_scheduled _ _ _ (λ is. simp (eq-eqb (length M) 16 lm, eq-eqb (length v) 16 h.0, low_offsets v h, is_true (taken d) t, same_cipher is M v d b))
 
-  pub encrypt-published-is : (b out v : List ℕ) (d : ℕ) → Offsets v → T (taken d) → encrypt_published_of w b out v d 0 ≡ encrypt_of w b out
-  encrypt-published-is b out v d h t =
-      if-scheduled _ _ _ (λ is. simp (eq-eqb (length v) 16 h.0, low_offsets v h, is_true (taken d) t, same-cipher is published v d b))
+  pub encrypt_published_is : (b out v : List ℕ) (d : ℕ) → Offsets v → T (taken d) → encrypt_published_of w b out v d 0 ≡ encrypt_of w b out
+  encrypt_published_is b out v d h t =
+      if_scheduled _ _ _ (λ is. simp (eq-eqb (length v) 16 h.0, low_offsets v h, is_true (taken d) t, same_cipher is published v d b))

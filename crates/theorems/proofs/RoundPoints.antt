@@ -20,19 +20,19 @@ module _ {P : Type 0} (rounds round begun rest : ℕ → List P) (k : ℕ) (empt
   rounds-length zero = rw (empty, mul-zero)
   rounds-length (suc n) = rw (more n, length-append (rounds n) (round n), rounds-length n, size n, mul-suc)
 
-  round-here : (none : P) (n r i : ℕ) (ps : List P) → r ≡ n → i < length (begun r) → get_or (rounds n ++ (begun n ++ ps)) (k * r + i) none ≡ get_or (begun r) i none
-  round-here none n r i ps e h =
+  round_here : (none : P) (n r i : ℕ) (ps : List P) → r ≡ n → i < length (begun r) → get_or (rounds n ++ (begun n ++ ps)) (k * r + i) none ≡ get_or (begun r) i none
+  round_here none n r i ps e h =
       rw (sym e, ← rounds-length r) (get_or-append-add (rounds r) (begun r ++ ps) i none ∙ get_or-append (begun r) ps none i h)
 
   -- round r of n whole ones and one more that begins as they do
-  round-in : (none : P) (n r i : ℕ) (ps : List P) → r ≤ n → i < length (begun r) → get_or (rounds n ++ (begun n ++ ps)) (k * r + i) none ≡ get_or (begun r) i none
-  round-in none zero r i ps le h = round-here none 0 r i ps (omega arith) h
-  round-in none (suc n) r i ps le h =
+  round_in : (none : P) (n r i : ℕ) (ps : List P) → r ≤ n → i < length (begun r) → get_or (rounds n ++ (begun n ++ ps)) (k * r + i) none ≡ get_or (begun r) i none
+  round_in none zero r i ps le h = round_here none 0 r i ps (omega arith) h
+  round_in none (suc n) r i ps le h =
       elim (ℕ_discrete r (suc n)) [
-        | yes e ↦ round-here none (suc n) r i ps e h
+        | yes e ↦ round_here none (suc n) r i ps e h
         | no e ↦
             rw (more n, begins n, append_assoc (rounds n) (begun n ++ rest n) (begun (suc n) ++ ps), append_assoc (begun n) (rest n) (begun (suc n) ++ ps))
-            (round-in none n r i _ (omega arith) h)
+            (round_in none n r i _ (omega arith) h)
       ]
 
 -- all of them, and the last, which is the finished block
@@ -57,14 +57,14 @@ mixed_at n r lt =
     let e : n - 1 ≡ suc m = omega (arith, lt) in
     let q : 5 * r + 4 ≡ suc (5 * r + 3) = omega arith in
     rw (q, e, append_assoc (wholes m) (whole m) (final (suc m)))
-    (round-in wholes whole whole (λ r. []) 5 refl (λ n. refl) (λ n. sym (append-nil (whole n))) (λ n. refl) block m r 3 (final (suc m)) (omega (arith, lt)) (lit< tt))
+    (round_in wholes whole whole (λ r. []) 5 refl (λ n. refl) (λ n. sym (append-nil (whole n))) (λ n. refl) block m r 3 (final (suc m)) (omega (arith, lt)) (lit< tt))
 
 -- in a run: state 5 r + 1 is that after the key of round r, and the next that after its boxes
 in_run : (nr r i q : ℕ) → r < nr → i < 2 → q ≡ suc (5 * r + i) → get_or (points nr) q block ≡ get_or (keyed r ∷ boxed r ∷ []) i block
 unfolding points wholes
 in_run nr r i q lt h e =
     rw e
-    (round-in wholes whole (λ r. keyed r ∷ boxed r ∷ []) (λ r. shifted r ∷ mixed r ∷ compensated r ∷ []) 5 refl (λ n. refl) (λ n. refl) (λ n. refl) block (nr - 1) r i _
+    (round_in wholes whole (λ r. keyed r ∷ boxed r ∷ []) (λ r. shifted r ∷ mixed r ∷ compensated r ∷ []) 5 refl (λ n. refl) (λ n. refl) (λ n. refl) block (nr - 1) r i _
     (omega arith) h)
 
 module _ (nr r : ℕ) (lt : r < nr) where
@@ -101,7 +101,7 @@ unmixed_at n r lt =
     let e : n - 1 ≡ suc m = omega (arith, lt) in
     let q : 6 * r + 6 ≡ suc (suc (6 * r + 4)) = omega arith in
     rw (q, e, append_assoc (sixes m) (six m) (closing (suc m)))
-    (round-in sixes six six (λ r. []) 6 refl (λ n. refl) (λ n. sym (append-nil (six n))) (λ n. refl) back.block m r 4 (closing (suc m)) (omega (arith, lt)) (lit< tt))
+    (round_in sixes six six (λ r. []) 6 refl (λ n. refl) (λ n. sym (append-nil (six n))) (λ n. refl) back.block m r 4 (closing (suc m)) (omega (arith, lt)) (lit< tt))
 
 -- in a decryption: state 6 r + 3 is that after the first correction of round r, and the next that after its boxes
 in_back : (nr r i q : ℕ) → r < nr → i < 4 → q ≡ suc (suc (6 * r + i))
@@ -109,18 +109,18 @@ in_back : (nr r i q : ℕ) → r < nr → i < 4 → q ≡ suc (suc (6 * r + i))
 unfolding back_points sixes
 in_back nr r i q lt h e =
     rw e
-    (round-in sixes six (λ r. back.unshifted r ∷ corrected r ∷ unboxed r ∷ back.keyed (suc r) ∷ []) (λ r. back.unmixed r ∷ back.restored r ∷ []) 6 refl (λ n. refl) (λ n. refl)
+    (round_in sixes six (λ r. back.unshifted r ∷ corrected r ∷ unboxed r ∷ back.keyed (suc r) ∷ []) (λ r. back.unmixed r ∷ back.restored r ∷ []) 6 refl (λ n. refl) (λ n. refl)
     (λ n. refl) back.block (nr - 1) r i _ (omega arith) h)
 
 module _ (nr r : ℕ) (lt : r < nr) where
-  pub corrected-at : get_or (back_points nr) (6 * r + 3) back.block ≡ corrected r
-  corrected-at = in_back nr r 1 (6 * r + 3) lt (lit< tt) (omega arith)
+  pub corrected_at : get_or (back_points nr) (6 * r + 3) back.block ≡ corrected r
+  corrected_at = in_back nr r 1 (6 * r + 3) lt (lit< tt) (omega arith)
 
-  pub unboxed-at : get_or (back_points nr) (6 * r + 3 + 1) back.block ≡ unboxed r
-  unboxed-at = in_back nr r 2 (6 * r + 3 + 1) lt (lit< tt) (omega arith)
+  pub unboxed_at : get_or (back_points nr) (6 * r + 3 + 1) back.block ≡ unboxed r
+  unboxed_at = in_back nr r 2 (6 * r + 3 + 1) lt (lit< tt) (omega arith)
 
-  pub within-back : 6 * r + 3 + 1 < length (back_points nr)
+  pub within_back : 6 * r + 3 + 1 < length (back_points nr)
   unfolding back_points sixes
-  within-back =
+  within_back =
       rw (length-append (sixes (nr - 1)) (closing (nr - 1)), rounds-length sixes six (λ r. []) six 6 refl (λ n. refl) (λ n. refl) (λ n. refl) (nr - 1))
       (omega arith)

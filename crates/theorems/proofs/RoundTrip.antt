@@ -18,17 +18,17 @@ module _ (n : ℕ) (w : List ℕ) (h : Bytes n w) where
   rounds-bytes zero b = b
   rounds-bytes (suc n) b = add_bytes (mix_bytes _) (key (suc n))
 
-  inv-rounds-bytes : {s : List ℕ} (n : ℕ) → Bytes 16 s → Bytes 16 (inv_rounds w s n)
+  inv_rounds-bytes : {s : List ℕ} (n : ℕ) → Bytes 16 s → Bytes 16 (inv_rounds w s n)
   unfolding inv_rounds
-  inv-rounds-bytes zero b = b
-  inv-rounds-bytes (suc n) b = inv-rounds-bytes n (inv_mix_bytes _)
+  inv_rounds-bytes zero b = b
+  inv_rounds-bytes (suc n) b = inv_rounds-bytes n (inv_mix_bytes _)
 
   -- the inverse rounds begin and end between a round's SHIFTROWS and its MIXCOLUMNS
-  inv-rounds-rounds : {s : List ℕ} (n : ℕ) → Bytes 16 s
+  inv_rounds-rounds : {s : List ℕ} (n : ℕ) → Bytes 16 s
       → inv_rounds w (shift_rows (sub_bytes (rounds w s n))) n ≡ shift_rows (sub_bytes s)
   unfolding rounds inv_rounds
-  inv-rounds-rounds zero b = refl
-  inv-rounds-rounds {s} (suc n) b =
+  inv_rounds-rounds zero b = refl
+  inv_rounds-rounds {s} (suc n) b =
       let t : Bytes 16 (rounds w s n) = rounds-bytes n b in
       rw (
         inv_shift_shift (sub_bytes_lem (rounds-bytes (suc n) b)),
@@ -36,47 +36,47 @@ module _ (n : ℕ) (w : List ℕ) (h : Bytes n w) where
         add_twice (round_key w (suc n)) (mix_bytes (shift_rows (sub_bytes (rounds w s n)))),
         inv_mix_mix (shift_bytes (sub_bytes_lem t)),
       )
-      (inv-rounds-rounds n b)
+      (inv_rounds-rounds n b)
 
   pub cipher-bytes : (nr : ℕ) {block : List ℕ} → Bytes 16 block → Bytes 16 (cipher nr w block)
   unfolding cipher
   cipher-bytes nr b = add_bytes (shift_bytes (sub_bytes_lem (rounds-bytes (nr - 1) (add_bytes b (key 0))))) (key nr)
 
-  pub inv-cipher-bytes : (nr : ℕ) {block : List ℕ} → Bytes 16 block → Bytes 16 (inv_cipher nr w block)
+  pub inv_cipher-bytes : (nr : ℕ) {block : List ℕ} → Bytes 16 block → Bytes 16 (inv_cipher nr w block)
   unfolding inv_cipher
-  inv-cipher-bytes nr b = add_bytes (inv_sub_bytes_lem (inv_shift_bytes (inv-rounds-bytes (nr - 1) (add_bytes b (key nr))))) (key 0)
+  inv_cipher-bytes nr b = add_bytes (inv_sub_bytes_lem (inv_shift_bytes (inv_rounds-bytes (nr - 1) (add_bytes b (key nr))))) (key 0)
 
-  pub inv-cipher-cipher : (nr : ℕ) {block : List ℕ} → Bytes 16 block → inv_cipher nr w (cipher nr w block) ≡ block
+  pub inv_cipher-cipher : (nr : ℕ) {block : List ℕ} → Bytes 16 block → inv_cipher nr w (cipher nr w block) ≡ block
   unfolding cipher inv_cipher
-  inv-cipher-cipher nr {block} b =
+  inv_cipher-cipher nr {block} b =
       let s : Bytes 16 (add_round_key block (round_key w 0)) = add_bytes b (key 0) in
       let t : Bytes 16 (rounds w (add_round_key block (round_key w 0)) (nr - 1)) = rounds-bytes (nr - 1) s in
       rw (
         add_twice (round_key w nr) (shift_bytes (sub_bytes_lem t)),
-        inv-rounds-rounds (nr - 1) s,
+        inv_rounds-rounds (nr - 1) s,
         inv_shift_shift (sub_bytes_lem s),
         inv_sub_sub s,
       )
       (add_twice (round_key w 0) b)
 
-  rounds-inv-rounds : {s : List ℕ} (n : ℕ) → Bytes 16 s
+  rounds-inv_rounds : {s : List ℕ} (n : ℕ) → Bytes 16 s
       → rounds w (inv_sub_bytes (inv_shift_rows (inv_rounds w s n))) n ≡ inv_sub_bytes (inv_shift_rows s)
   unfolding rounds inv_rounds
-  rounds-inv-rounds zero b = refl
-  rounds-inv-rounds {s} (suc n) b =
+  rounds-inv_rounds zero b = refl
+  rounds-inv_rounds {s} (suc n) b =
       let k : Bytes 16 (add_round_key (inv_sub_bytes (inv_shift_rows s)) (round_key w (suc n))) = add_bytes (inv_sub_bytes_lem (inv_shift_bytes b)) (key (suc n)) in
       let m : Bytes 16 (inv_mix_columns (add_round_key (inv_sub_bytes (inv_shift_rows s)) (round_key w (suc n)))) = inv_mix_bytes _ in
-      rw (rounds-inv-rounds n m, sub_inv_sub (inv_shift_bytes m), shift_inv_shift m, mix_inv_mix k)
+      rw (rounds-inv_rounds n m, sub_inv_sub (inv_shift_bytes m), shift_inv_shift m, mix_inv_mix k)
       (add_twice (round_key w (suc n)) (inv_sub_bytes_lem (inv_shift_bytes b)))
 
-  pub cipher-inv-cipher : (nr : ℕ) {block : List ℕ} → Bytes 16 block → cipher nr w (inv_cipher nr w block) ≡ block
+  pub cipher-inv_cipher : (nr : ℕ) {block : List ℕ} → Bytes 16 block → cipher nr w (inv_cipher nr w block) ≡ block
   unfolding cipher inv_cipher
-  cipher-inv-cipher nr {block} b =
+  cipher-inv_cipher nr {block} b =
       let s : Bytes 16 (add_round_key block (round_key w nr)) = add_bytes b (key nr) in
-      let t : Bytes 16 (inv_rounds w (add_round_key block (round_key w nr)) (nr - 1)) = inv-rounds-bytes (nr - 1) s in
+      let t : Bytes 16 (inv_rounds w (add_round_key block (round_key w nr)) (nr - 1)) = inv_rounds-bytes (nr - 1) s in
       rw (
         add_twice (round_key w 0) (inv_sub_bytes_lem (inv_shift_bytes t)),
-        rounds-inv-rounds (nr - 1) s,
+        rounds-inv_rounds (nr - 1) s,
         sub_inv_sub (inv_shift_bytes s),
         shift_inv_shift s,
       )

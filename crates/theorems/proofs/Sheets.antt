@@ -13,7 +13,7 @@ use mir.Facts.{and_yes}
 use borrow.Author.Tests.{eq-eqb, ne_eqb}
 use Rattle.aes.specs.State.{at}
 use Rattle.aes.specs.Reply.{marked, version, step_of, taken}
-use Rattle.aes.proofs.Replies.{AllHold, telling, done-holds, holds-done, is_true}
+use Rattle.aes.proofs.Replies.{AllHold, telling, done_holds, holds_done, is_true}
 use Rattle.masks.proofs.Headed.{five, first_version, second_version}
 use Rattle.masks.specs.Sheet.{headed, sheet_of, masks_of, read_checks, read_sheet_of, write_sheet_of}
 
@@ -22,15 +22,15 @@ module _ (masks other : List ℕ) (m : length masks ≡ 16) (o : length other �
   read_first : read_sheet_of (headed 1 masks) other ≡ (0, (1, masks))
   unfolding headed masks_of AllHold
   read_first =
-      holds-done _ _ (read_checks (headed 1 masks) other) (rw m tt, (tt, (tt, (rw m tt, (tt, (rw o tt, tt))))))
+      holds_done _ _ (read_checks (headed 1 masks) other) (rw m tt, (tt, (tt, (rw m tt, (tt, (rw o tt, tt))))))
       ∙ ap (λ (l : List ℕ). (0, (1, l))) (take_all 16 masks (omega arith))
 
-  read-second : (d : ℕ) → T (leb 4 d && leb d 15) → read_sheet_of (headed 2 masks ++ (d ∷ [])) other ≡ (0, (d, masks))
+  read_second : (d : ℕ) → T (leb 4 d && leb d 15) → read_sheet_of (headed 2 masks ++ (d ∷ [])) other ≡ (0, (d, masks))
   unfolding headed masks_of AllHold
-  read-second d t =
+  read_second d t =
       let long : length (masks ++ (d ∷ [])) ≡ 17 = length-append masks (d ∷ []) ∙ omega (arith, m) in
       let last : at (masks ++ (d ∷ [])) 16 ≡ d = get_or_at masks d [] 0 16 m in
-      holds-done _ _ (read_checks (headed 2 masks ++ (d ∷ [])) other) (rw long tt, (tt, (tt, (rw long tt, (rw last t, (rw o tt, tt))))))
+      holds_done _ _ (read_checks (headed 2 masks ++ (d ∷ [])) other) (rw long tt, (tt, (tt, (rw long tt, (rw last t, (rw o tt, tt))))))
       ∙ λ i. (0, (last i, take_at masks (d ∷ []) 16 m i))
 
 -- a step that is taken, and not 1, is one of version 2
@@ -50,7 +50,7 @@ read_write masks sheet other d m t s o =
     ap (λ (x : List ℕ). read_sheet_of x other) written
     ∙ elim (ℕ_discrete d 1) [
       | yes e ↦ ap (λ (x : List ℕ). read_sheet_of x other) (sym (first_version masks d e)) ∙ read_first masks other m o ∙ ap (λ (n : ℕ). (0, (n, masks))) (sym e)
-      | no e ↦ ap (λ (x : List ℕ). read_sheet_of x other) (sym (second_version masks d e)) ∙ read-second masks other m o d (others (eqb d 1) (leb 4 d) (leb d 15) (ne_eqb d 1 e) t)
+      | no e ↦ ap (λ (x : List ℕ). read_sheet_of x other) (sym (second_version masks d e)) ∙ read_second masks other m o d (others (eqb d 1) (leb 4 d) (leb d 15) (ne_eqb d 1 e) t)
     ]
 
 -- a sheet by its parts: the bytes of its head, and what stands behind them
@@ -68,17 +68,17 @@ parts v sheet l h e small =
 
 -- what the writer makes of the masks and the step of a sheet that the reader takes: in version 1, and in version 2
 module _ (sheet other : List ℕ) (h : T (marked sheet)) where
-  write-first : version sheet ≡ 1 → length sheet ≡ 21 → length other ≡ 21 → write_sheet_of (masks_of sheet) 1 other ≡ (0, sheet)
+  write_first : version sheet ≡ 1 → length sheet ≡ 21 → length other ≡ 21 → write_sheet_of (masks_of sheet) 1 other ≡ (0, sheet)
   unfolding masks_of sheet_of
-  write-first v l o =
+  write_first v l o =
       let room : length (drop 5 sheet) ≡ 16 = simp length-drop (omega (arith, l)) in
       let all : take 16 (drop 5 sheet) ≡ drop 5 sheet = take_all 16 (drop 5 sheet) (omega (arith, room)) in
       rw all (simp (eq-eqb (length other) 21 o, eq-eqb (length (drop 5 sheet)) 16 room) (ap (λ (x : List ℕ). (0, x)) (parts 1 sheet (omega (arith, l)) h v (lit≤ tt))))
 
-  write-second : (d : ℕ) → version sheet ≡ 2 → length sheet ≡ 22 → length other ≡ 22 → d ≡ at sheet 21 → T (leb 4 d && leb d 15)
+  write_second : (d : ℕ) → version sheet ≡ 2 → length sheet ≡ 22 → length other ≡ 22 → d ≡ at sheet 21 → T (leb 4 d && leb d 15)
       → write_sheet_of (masks_of sheet) d other ≡ (0, sheet)
   unfolding masks_of sheet_of headed
-  write-second d v l o last t =
+  write_second d v l o last t =
       let room : length (drop 5 sheet) ≡ 17 = simp length-drop (omega (arith, l)) in
       let masks_are : length (take 16 (drop 5 sheet)) ≡ 16 = length-take-le 16 (drop 5 sheet) (omega (arith, room)) in
       let high = and_yes (leb 4 d) (leb d 15) t in
@@ -94,7 +94,7 @@ pub write_read : (sheet masks other : List ℕ) → (read_sheet_of sheet masks).
     → write_sheet_of (read_sheet_of sheet masks).1.1 (read_sheet_of sheet masks).1.0 other ≡ (0, sheet)
 unfolding AllHold telling
 write_read sheet masks other e o =
-    let r = done-holds (0, masks) (step_of sheet, masks_of sheet) (read_checks sheet masks) tt e in
+    let r = done_holds (0, masks) (step_of sheet, masks_of sheet) (read_checks sheet masks) tt e in
     let held = r.0 in
     let size : length sheet ≡ cond (eqb (version sheet) 1) 21 22 = eqb→eq (length sheet) _ held.1.1.1.0 in
     let again : ℕ → ℕ × List ℕ = λ d. write_sheet_of (masks_of sheet) d other in
@@ -103,11 +103,11 @@ write_read sheet masks other e o =
       | yes v ↦
           let one : eqb (version sheet) 1 ≡ true = eq-eqb (version sheet) 1 v in
           let l : length sheet ≡ 21 = rw one at size in
-          ap again (ap (λ (b : Bool). cond b 1 (at sheet 21)) one) ∙ write-first sheet other held.1.0 v l (o ∙ l)
+          ap again (ap (λ (b : Bool). cond b 1 (at sheet 21)) one) ∙ write_first sheet other held.1.0 v l (o ∙ l)
       | no v ↦
           let two : eqb (version sheet) 1 ≡ false = ne_eqb (version sheet) 1 v in
           let l : length sheet ≡ 22 = rw two at size in
           let step : step_of sheet ≡ at sheet 21 = ap (λ (b : Bool). cond b 1 (at sheet 21)) two in
-          write-second sheet other held.1.0 (step_of sheet) (eqb→eq (version sheet) 2 (or_else _ _ two held.1.1.0)) l (o ∙ l) step
+          write_second sheet other held.1.0 (step_of sheet) (eqb→eq (version sheet) 2 (or_else _ _ two held.1.1.0)) l (o ∙ l) step
           (or_else _ _ two held.1.1.1.1.0)
     ])

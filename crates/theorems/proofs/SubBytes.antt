@@ -5,17 +5,17 @@ use mathlib.Core.List.{List}
 use Prim.Native.Nat.{ℕ, ◌<◌}
 use Rattle.aes.specs.Box.{s_box, inv_s_box}
 use Rattle.aes.specs.State.{at, sub_bytes, inv_sub_bytes, Bytes}
-use Rattle.aes.proofs.Listed.{place-right, place-only}
+use Rattle.aes.proofs.Listed.{place_right, place_only}
 use Rattle.aes.proofs.Boxes.{inverted, inv_s_box_byte}
 use Rattle.aes.proofs.Undo.{state-at, state-bytes}
 
 pub s_box-inv_s_box : (b : ℕ) → b < 256 → s_box (inv_s_box b) ≡ b
 unfolding inv_s_box
-s_box-inv_s_box = place-right s_box (λ b. b) 256 inverted
+s_box-inv_s_box = place_right s_box (λ b. b) 256 inverted
 
 pub inv_s_box-s_box : (b : ℕ) → b < 256 → inv_s_box (s_box b) ≡ b
 unfolding inv_s_box
-inv_s_box-s_box = place-only s_box (λ b. b) 256 inverted
+inv_s_box-s_box = place_only s_box (λ b. b) 256 inverted
 
 pub inv_sub_bytes_lem : {s : List ℕ} → Bytes 16 s → Bytes 16 (inv_sub_bytes s)
 unfolding inv_sub_bytes

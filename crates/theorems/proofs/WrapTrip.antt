@@ -12,8 +12,8 @@ use Rattle.aes.specs.Byte.{◌⊕◌, listed}
 use Rattle.aes.specs.State.{at, Bytes}
 use Rattle.aes.proofs.Xor.{xor_byte}
 use Rattle.buffer.specs.Wrap.{initial, counter, counted, value, with_values, place, number, wrap_step, unwrap_step, wrap_steps, unwrap_steps, wrapped, unwrapped}
-use Rattle.buffer.proofs.Buffer.{take-drop, counted_size, counted-twice, value-size, with-own, with_first, with_value, with-again}
-use Rattle.buffer.proofs.Pieces.{step-long, unstep-long}
+use Rattle.buffer.proofs.Buffer.{take-drop, counted_size, counted-twice, value_size, with_own, with_first, with_value, with_again}
+use Rattle.buffer.proofs.Pieces.{step_long, unstep_long}
 
 -- bytes, however many
 unfoldable pub Small : List ℕ → Type 0
@@ -83,7 +83,7 @@ module _ (n : ℕ) (s : List ℕ) (h : Held n s) (i t : ℕ) (pos : 0 < i) (most
   block : (a : List ℕ) → length a ≡ 8 → Small a → Bytes 16 (a ++ value i s)
   unfolding value
   block a l ha = record {
-    size = length-append a (value i s) ∙ ap₂ ◌+◌ l (value-size i pos s long);
+    size = length-append a (value i s) ∙ ap₂ ◌+◌ l (value_size i pos s long);
     byte = small_at (a ++ value i s) (small_append a (value i s) ha (small_take 8 (drop (8 * i) s) (small_drop (8 * i) s h.small)));
   }
 
@@ -101,9 +101,9 @@ module _ (n : ℕ) (s : List ℕ) (h : Held n s) (i t : ℕ) (pos : 0 < i) (most
     right : length (drop 8 b) ≡ 8
     right = length-drop 8 b ∙ rw hb.size
 
-    with-small : (a : List ℕ) → Small a → Small (with_values i a (drop 8 b) s)
+    with_small : (a : List ℕ) → Small a → Small (with_values i a (drop 8 b) s)
     unfolding with_values
-    with-small a ha =
+    with_small a ha =
         let m : List ℕ = take (8 * i - 8) (drop 8 s) in
         let r : Small (drop 8 b) = small_drop 8 b (at_small b hb.byte) in
         small_append (a ++ m ++ drop 8 b) (drop (8 * i + 8) s)
@@ -111,22 +111,22 @@ module _ (n : ℕ) (s : List ℕ) (h : Held n s) (i t : ℕ) (pos : 0 < i) (most
         (small_drop (8 * i + 8) s h.small)
 
   module _ {E D : List ℕ → List ℕ} (u : Undone E D) where
-    pub step-held : Held n (wrap_step E i t s)
+    pub step_held : Held n (wrap_step E i t s)
     unfolding wrap_step
-    step-held =
+    step_held =
         let hb : Bytes 16 (E (x ++ value i s)) = u.kept plain in
         let b : List ℕ = E (x ++ value i s) in
         record {
-          size = step-long E u.size i t s pos long ∙ h.size;
-          small = with-small hb (counted t (take 8 b)) (small_counted t (take 8 b) (small_take 8 b (at_small b hb.byte)));
+          size = step_long E u.size i t s pos long ∙ h.size;
+          small = with_small hb (counted t (take 8 b)) (small_counted t (take 8 b) (small_take 8 b (at_small b hb.byte)));
         }
 
-    pub unstep-held : Held n (unwrap_step E i t s)
+    pub unstep_held : Held n (unwrap_step E i t s)
     unfolding unwrap_step
-    unstep-held =
+    unstep_held =
         let hb : Bytes 16 (E (counted t x ++ value i s)) = u.kept marked in
         let b : List ℕ = E (counted t x ++ value i s) in
-        record { size = unstep-long E u.size i t s pos long ∙ h.size; small = with-small hb (take 8 b) (small_take 8 b (at_small b hb.byte)) }
+        record { size = unstep_long E u.size i t s pos long ∙ h.size; small = with_small hb (take 8 b) (small_take 8 b (at_small b hb.byte)) }
 
     -- what was put in is found again, and what was there before is put back
     module _ (a r : List ℕ) (la : length a ≡ 8) (lr : length r ≡ 8) where
@@ -134,11 +134,11 @@ module _ (n : ℕ) (s : List ℕ) (h : Held n s) (i t : ℕ) (pos : 0 < i) (most
       found g = ap₂ (λ (p q : List ℕ). g p ++ q) (with_first i pos s long a r la lr) (with_value i pos s long a r la lr)
 
       restored : with_values i x (value i s) (with_values i a r s) ≡ s
-      restored = with-again i pos s long a r la lr x (value i s) ∙ with-own i pos s long
+      restored = with_again i pos s long a r la lr x (value i s) ∙ with_own i pos s long
 
-    pub undone-step : unwrap_step D i t (wrap_step E i t s) ≡ s
+    pub undone_step : unwrap_step D i t (wrap_step E i t s) ≡ s
     unfolding wrap_step unwrap_step
-    undone-step =
+    undone_step =
         let b : List ℕ = E (x ++ value i s) in
         let hb : Bytes 16 b = u.kept plain in
         let a : List ℕ = counted t (take 8 b) in
@@ -149,9 +149,9 @@ module _ (n : ℕ) (s : List ℕ) (h : Held n s) (i t : ℕ) (pos : 0 < i) (most
         ap₂ (λ (p q : List ℕ). with_values i p q s') (ap (take 8) back ∙ take_at x (value i s) 8 first) (ap (drop 8) back ∙ drop_at x (value i s) 8 first)
         ∙ restored a (drop 8 b) la (right hb)
 
-    pub redone-step : wrap_step D i t (unwrap_step E i t s) ≡ s
+    pub redone_step : wrap_step D i t (unwrap_step E i t s) ≡ s
     unfolding wrap_step unwrap_step
-    redone-step =
+    redone_step =
         let c : List ℕ = counted t x in
         let lc : length c ≡ 8 = counted_size t x in
         let b : List ℕ = E (c ++ value i s) in
@@ -171,26 +171,26 @@ module _ (n : ℕ) (pos : 0 < n) where
     pub steps-held : (k : ℕ) (s : List ℕ) → Held n s → Held n (wrap_steps E n k s)
     unfolding wrap_steps
     steps-held zero s h = h
-    steps-held (suc k) s h = step-held n (wrap_steps E n k s) (steps-held k s h) (place n k) (number n k) (within k).0 (within k).1 u
+    steps-held (suc k) s h = step_held n (wrap_steps E n k s) (steps-held k s h) (place n k) (number n k) (within k).0 (within k).1 u
 
-    pub undone-steps : (k : ℕ) (s : List ℕ) → Held n s → unwrap_steps D n k (wrap_steps E n k s) ≡ s
+    pub undone_steps : (k : ℕ) (s : List ℕ) → Held n s → unwrap_steps D n k (wrap_steps E n k s) ≡ s
     unfolding wrap_steps unwrap_steps
-    undone-steps zero s h = refl
-    undone-steps (suc k) s h =
-        ap (unwrap_steps D n k) (undone-step n (wrap_steps E n k s) (steps-held k s h) (place n k) (number n k) (within k).0 (within k).1 u) ∙ undone-steps k s h
+    undone_steps zero s h = refl
+    undone_steps (suc k) s h =
+        ap (unwrap_steps D n k) (undone_step n (wrap_steps E n k s) (steps-held k s h) (place n k) (number n k) (within k).0 (within k).1 u) ∙ undone_steps k s h
 
-    pub unsteps-held : (k : ℕ) (s : List ℕ) → Held n s → Held n (unwrap_steps E n k s)
+    pub unsteps_held : (k : ℕ) (s : List ℕ) → Held n s → Held n (unwrap_steps E n k s)
     unfolding unwrap_steps
-    unsteps-held zero s h = h
-    unsteps-held (suc k) s h = unsteps-held k (unwrap_step E (place n k) (number n k) s) (unstep-held n s h (place n k) (number n k) (within k).0 (within k).1 u)
+    unsteps_held zero s h = h
+    unsteps_held (suc k) s h = unsteps_held k (unwrap_step E (place n k) (number n k) s) (unstep_held n s h (place n k) (number n k) (within k).0 (within k).1 u)
 
-    pub redone-steps : (k : ℕ) (s : List ℕ) → Held n s → wrap_steps D n k (unwrap_steps E n k s) ≡ s
+    pub redone_steps : (k : ℕ) (s : List ℕ) → Held n s → wrap_steps D n k (unwrap_steps E n k s) ≡ s
     unfolding wrap_steps unwrap_steps
-    redone-steps zero s h = refl
-    redone-steps (suc k) s h =
+    redone_steps zero s h = refl
+    redone_steps (suc k) s h =
         let i : ℕ = place n k in
-        ap (wrap_step D i (number n k)) (redone-steps k (unwrap_step E i (number n k) s) (unstep-held n s h i (number n k) (within k).0 (within k).1 u))
-        ∙ redone-step n s h i (number n k) (within k).0 (within k).1 u
+        ap (wrap_step D i (number n k)) (redone_steps k (unwrap_step E i (number n k) s) (unstep_held n s h i (number n k) (within k).0 (within k).1 u))
+        ∙ redone_step n s h i (number n k) (within k).0 (within k).1 u
 
 -- unwrapping a wrap gives the initial value and the key data
 module _ {E D : List ℕ → List ℕ} (u : Undone E D) (n : ℕ) (pos : 0 < n) where
@@ -202,11 +202,11 @@ module _ {E D : List ℕ → List ℕ} (u : Undone E D) (n : ℕ) (pos : 0 < n) 
     unfolding wrapped
     wrapped-held = rw count (steps-held n pos u (6 * n) (initial ++ keys) h)
 
-    pub undone-wrap : unwrapped D (wrapped E keys) ≡ initial ++ keys
+    pub undone_wrap : unwrapped D (wrapped E keys) ≡ initial ++ keys
     unfolding wrapped unwrapped
-    undone-wrap =
+    undone_wrap =
         let f : length (wrap_steps E n (6 * n) (initial ++ keys)) / 8 - 1 ≡ n = rw (steps-held n pos u (6 * n) (initial ++ keys) h).size (omega arith) in
-        rw (count, f) (undone-steps n pos u (6 * n) (initial ++ keys) h)
+        rw (count, f) (undone_steps n pos u (6 * n) (initial ++ keys) h)
 
   -- what is unwrapped is as long, and wrapping its key data gives the wrap again, if its register is the initial value
   module _ (sealed : List ℕ) (h : Held n sealed) where
@@ -215,13 +215,13 @@ module _ {E D : List ℕ → List ℕ} (u : Undone E D) (n : ℕ) (pos : 0 < n) 
 
     pub unwrapped-held : Held n (unwrapped E sealed)
     unfolding unwrapped
-    unwrapped-held = rw values (unsteps-held n pos u (6 * n) sealed h)
+    unwrapped-held = rw values (unsteps_held n pos u (6 * n) sealed h)
 
-    pub redone-wrap : take 8 (unwrapped E sealed) ≡ initial → wrapped D (drop 8 (unwrapped E sealed)) ≡ sealed
+    pub redone_wrap : take 8 (unwrapped E sealed) ≡ initial → wrapped D (drop 8 (unwrapped E sealed)) ≡ sealed
     unfolding wrapped unwrapped
-    redone-wrap intact =
+    redone_wrap intact =
         let r : List ℕ = unwrapped E sealed in
         let l : length (drop 8 r) / 8 ≡ n = rw (length-drop 8 r, unwrapped-held.size) (omega arith) in
         let whole : initial ++ drop 8 r ≡ r = ap (λ (a : List ℕ). a ++ drop 8 r) (sym intact) ∙ take-drop 8 r in
         ap (λ (k : ℕ). wrap_steps D k (6 * k) (initial ++ drop 8 r)) l ∙ ap (wrap_steps D n (6 * n)) (whole ∙ ap (λ (k : ℕ). unwrap_steps E k (6 * k) sealed) values)
-        ∙ redone-steps n pos u (6 * n) sealed h
+        ∙ redone_steps n pos u (6 * n) sealed h

@@ -9,7 +9,7 @@ use Rattle.aes.specs.Byte.{◌⊕◌, table}
 use Rattle.aes.specs.Field.{times}
 use Rattle.aes.proofs.Xor.{sums, xor_self}
 use Rattle.aes.proofs.Listed.{agree}
-use Rattle.aes.proofs.Products.{double_xor, times-xor-left, times-xor-right, times_zero, times_below, times-comm}
+use Rattle.aes.proofs.Products.{double_xor, times_xor_left, times_xor_right, times_zero, times_below, times_comm}
 use Rattle.tower.specs.Tower.{half_modulus, double_half, constant, ◌⊗◌, inverse_half, norm, tinv, covered_norm, covered_high, covered_low}
 
 double_keeps : (a b : ℕ) → double_half (a ⊕ b) ≡ double_half a ⊕ double_half b
@@ -18,11 +18,11 @@ double_keeps = double_xor half_modulus 3
 
 pub half_left : (a b c : ℕ) → (a ⊕ b) ⊗ c ≡ a ⊗ c ⊕ b ⊗ c
 unfolding ◌⊗◌
-half_left = times-xor-left double_half double_keeps 4
+half_left = times_xor_left double_half double_keeps 4
 
 pub half_right : (a b c : ℕ) → a ⊗ (b ⊕ c) ≡ a ⊗ b ⊕ a ⊗ c
 unfolding ◌⊗◌
-half_right = times-xor-right double_half double_keeps 4
+half_right = times_xor_right double_half double_keeps 4
 
 pub half_zero_left : (x : ℕ) → 0 ⊗ x ≡ 0
 unfolding ◌⊗◌
@@ -46,7 +46,7 @@ half_half = times_below double_half double_keeps 4 double_half_lem 4
 
 pub half_comm : (a b : ℕ) → a < 16 → b < 16 → a ⊗ b ≡ b ⊗ a
 unfolding ◌⊗◌
-half_comm = times-comm double_half double_keeps 4 double_half_lem half_one
+half_comm = times_comm double_half double_keeps 4 double_half_lem half_one
 
 pub half_xor : (a b : ℕ) → a < 16 → b < 16 → a ⊕ b < 16
 half_xor = xor_lt 4

@@ -43,20 +43,20 @@ module _ (xh xl mh ml : ℕ) (p : xh < 16) (q : xl < 16) (r : mh < 16) (s : ml <
   abbrev d : ℕ
   d = inverse_half (norm (xh ⊕ mh) (xl ⊕ ml))
 
-  d-half : d < 16
-  d-half = inverse_half_lem _ (norm_half _ _ (half_xor xh mh p r) (half_xor xl ml q s))
+  d_half : d < 16
+  d_half = inverse_half_lem _ (norm_half _ _ (half_xor xh mh p r) (half_xor xl ml q s))
 
-  covered-inverse : tinv (covered_norm xh xl mh ml) mh ≡ d ⊕ mh
-  covered-inverse = ap (λ (n : ℕ). inverse_half n ⊕ mh) (ap (λ (n : ℕ). n ⊕ mh) (norm-covered xh xl mh ml q r s) ∙ uncover (norm (xh ⊕ mh) (xl ⊕ ml)))
+  covered_inverse_lem : tinv (covered_norm xh xl mh ml) mh ≡ d ⊕ mh
+  covered_inverse_lem = ap (λ (n : ℕ). inverse_half n ⊕ mh) (ap (λ (n : ℕ). n ⊕ mh) (norm-covered xh xl mh ml q r s) ∙ uncover (norm (xh ⊕ mh) (xl ⊕ ml)))
     where
       uncover : (n : ℕ) → n ⊕ mh ⊕ mh ≡ n
       uncover n = simp sums
 
-  pair-covered : covered_pair xh xl mh ml ≡ inverse_pair (xh ⊕ mh) (xl ⊕ ml) ⊕ joined mh ml
-  pair-covered =
-      ap (λ (i : ℕ). joined (covered_high xh mh ml i) (covered_low xl mh ml i (covered_high xh mh ml i))) covered-inverse
-      ∙ ap (λ (a : ℕ). joined a (covered_low xl mh ml (d ⊕ mh) a)) (high-covered xh mh ml d r s d-half)
-      ∙ ap (λ (a : ℕ). joined ((xh ⊕ mh) ⊗ d ⊕ mh) a) (low-covered xh xl mh ml d s d-half)
+  pair_covered : covered_pair xh xl mh ml ≡ inverse_pair (xh ⊕ mh) (xl ⊕ ml) ⊕ joined mh ml
+  pair_covered =
+      ap (λ (i : ℕ). joined (covered_high xh mh ml i) (covered_low xl mh ml i (covered_high xh mh ml i))) covered_inverse_lem
+      ∙ ap (λ (a : ℕ). joined a (covered_low xl mh ml (d ⊕ mh) a)) (high-covered xh mh ml d r s d_half)
+      ∙ ap (λ (a : ℕ). joined ((xh ⊕ mh) ⊗ d ⊕ mh) a) (low-covered xh xl mh ml d s d_half)
       ∙ joined_xor ((xh ⊕ mh) ⊗ d) mh (((xh ⊕ mh) ⊕ (xl ⊕ ml)) ⊗ d) ml
       (half_half _ d (half_xor (xh ⊕ mh) (xl ⊕ ml) (half_xor xh mh p r) (half_xor xl ml q s))) s
 
@@ -65,7 +65,7 @@ inverse_in : (t m : ℕ) → t < 256 → m < 256 → covered_pair (high t) (low 
 unfolding tower_inverse
 inverse_in t m ht hm =
     let e : joined (high m) (low m) ≡ m = omega arith in
-    pair-covered (high t) (low t) (high m) (low m) (omega arith) (omega arith) (omega arith) (omega arith)
+    pair_covered (high t) (low t) (high m) (low m) (omega arith) (omega arith) (omega arith) (omega arith)
     ∙ ap₂ (λ (a b : ℕ). a ⊕ b) (sym (ap₂ inverse_pair (xor_shr t m 4) (xor_mod t m 4))) e
 
 tower_inverse_byte : (t : ℕ) → t < 256 → tower_inverse t < 256

@@ -6,7 +6,7 @@ use native.Mathlib.Omega.{arith}
 use lib.Bits.{xor_shr, xor_mod}
 use lib.Dec.{lit<}
 use Rattle.aes.specs.Byte.{◌⊕◌, bit, table}
-use Rattle.aes.proofs.Xor.{mod-two, sums, xor_byte}
+use Rattle.aes.proofs.Xor.{mod_two, sums, xor_byte}
 use Rattle.aes.proofs.Listed.{agree}
 use Rattle.aes.proofs.Products.{bit_through, bit_left, bit_below}
 
@@ -37,7 +37,7 @@ unfolding table spread_by
 split = agree (λ a. a) (λ a. spread_by (λ i. 2 ^ i) a 0 8) 256 refl
 
 bit_byte : (a i : ℕ) → i < 8 → 2 ^ i * bit a i < 256
-bit_byte a i h = bit_below 256 (2 ^ i) (bit a i) (single_byte i h) (mod-two _)
+bit_byte a i h = bit_below 256 (2 ^ i) (bit a i) (single_byte i h) (mod_two _)
 
 spread_byte : (a i n : ℕ) → i + n ≤ 8 → spread_by (λ j. 2 ^ j) a i n < 256
 unfolding spread_by
@@ -45,15 +45,15 @@ spread_byte a i zero h = lit< tt
 spread_byte a i (suc n) h = xor_byte _ _ (bit_byte a i (omega arith)) (spread_byte a (suc i) n (omega arith))
 
 module _ {f : ℕ → ℕ} (lin : Linear f) where
-  spread-from : (a i n : ℕ) → i + n ≤ 8 → f (spread_by (λ j. 2 ^ j) a i n) ≡ spread_by (λ j. f (2 ^ j)) a i n
+  spread_from : (a i n : ℕ) → i + n ≤ 8 → f (spread_by (λ j. 2 ^ j) a i n) ≡ spread_by (λ j. f (2 ^ j)) a i n
   unfolding spread_by
-  spread-from a i zero h = lin.zero_at
-  spread-from a i (suc n) h =
+  spread_from a i zero h = lin.zero_at
+  spread_from a i (suc n) h =
       lin.sum-at (2 ^ i * bit a i) (spread_by (λ j. 2 ^ j) a (suc i) n) (bit_byte a i (omega arith)) (spread_byte a (suc i) n (omega arith))
-      ∙ ap₂ (λ (x y : ℕ). x ⊕ y) (bit_through f lin.zero_at (2 ^ i) (bit a i) (mod-two _)) (spread-from a (suc i) n (omega arith))
+      ∙ ap₂ (λ (x y : ℕ). x ⊕ y) (bit_through f lin.zero_at (2 ^ i) (bit a i) (mod_two _)) (spread_from a (suc i) n (omega arith))
 
   spread : (a : ℕ) → a < 256 → f a ≡ spread_by (λ j. f (2 ^ j)) a 0 8
-  spread a h = ap f (split a h) ∙ spread-from a 0 8 (omega arith)
+  spread a h = ap f (split a h) ∙ spread_from a 0 8 (omega arith)
 
 spread_same : (c d : ℕ → ℕ) (a i n : ℕ) → ((j : ℕ) → j < i + n → c j ≡ d j) → spread_by c a i n ≡ spread_by d a i n
 unfolding spread_by
@@ -68,7 +68,7 @@ by_basis {f} {g} p q h a lt = spread p a lt ∙ spread_same (λ j. f (2 ^ j)) (�
 -- one whose values are the sums of those at single bits keeps sums
 scaled : (c a b i : ℕ) → c * bit (a ⊕ b) i ≡ c * bit a i ⊕ c * bit b i
 scaled c a b i =
-    rw (xor_shr a b i, xor_mod (a / 2 ^ i) (b / 2 ^ i) 1) (bit_left c (a / 2 ^ i % 2) (b / 2 ^ i % 2) (mod-two _) (mod-two _))
+    rw (xor_shr a b i, xor_mod (a / 2 ^ i) (b / 2 ^ i) 1) (bit_left c (a / 2 ^ i % 2) (b / 2 ^ i % 2) (mod_two _) (mod_two _))
 
 spread_xor : (c : ℕ → ℕ) (a b i n : ℕ) → spread_by c (a ⊕ b) i n ≡ spread_by c a i n ⊕ spread_by c b i n
 unfolding spread_by

@@ -1,5 +1,7 @@
 // Runs the vectors of standard input on the calls that unwrap, by the plain engine and by the masked one at every offset, and prints
 // how many of each source were run and how many differ. A damaged wrapped key must be refused.
+#![tactic(auto)]
+
 mod calls;
 mod table;
 

@@ -1,5 +1,7 @@
 // Runs the vectors of standard input on the plain engine, and on the converter, which makes its blocks of stored ones, and prints
 // how many of each source were run and how many differ.
+#![tactic(auto)]
+
 mod c3;
 mod calls;
 mod sources;

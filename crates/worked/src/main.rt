@@ -1,5 +1,7 @@
 // The rack's job on FIPS 197's own example, and worked examples of the field under it. What each line should be is in the file
 // stdout beside src/: C.3 as docs/DECISIONS.md, 40, has it, and the place named at the end of the line.
+#![tactic(auto)]
+
 mod rack;
 
 use aes::reply::Valued;

@@ -1,4 +1,6 @@
 // Key wrap of RFC 3394 with AES-256, over either engine.
+#![tactic(auto)]
+
 mod calls;
 mod engine;
 mod steps;

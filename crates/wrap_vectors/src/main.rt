@@ -1,5 +1,7 @@
 // Runs the vectors of standard input on the calls that wrap, by the plain engine and by the masked one at every offset, and prints how
 // many of each source were run and how many differ.
+#![tactic(auto)]
+
 mod calls;
 mod table;
 

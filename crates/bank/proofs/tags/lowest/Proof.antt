@@ -8,7 +8,7 @@ use borrow.Author.Tests.{eq-eqb, ne_eqb}
 use lib.Dec.{eqb}
 use Rattle.aes.specs.Byte.{place}
 use Rattle.bank.specs.Places.{tag, lowest}
-use Rattle.bank.proofs.Walk.{First, first_none, first-here, first_on, first-all}
+use Rattle.bank.proofs.Walk.{First, first_none, first_here, first_on, first_all}
 use Rattle.bank.proofs.tags.lowest.Statement.{statement}
 use Rattle.bank.proofs.tags.lowest.Tie as tie
 
@@ -28,7 +28,7 @@ returns c =
     let found = c.before in
     let l = found.before.before.before in
     let k = at_tag l.before.args.tags found.before.tag_of.ensures found.place_of.ensures.0 in
-    (sym (first-here l.loop.invariant (search rules) (eq-eqb _ 16 (sym k ∙ c.if1.true))), search rules)
+    (sym (first_here l.loop.invariant (search rules) (eq-eqb _ 16 (sym k ∙ c.if1.true))), search rules)
 
 again : tie.Need-loop-preserved invariant-loop decreases-loop
 again c =
@@ -39,7 +39,7 @@ again c =
 
 returns-2 : tie.Need-returns-2 invariant-loop decreases-loop
 unfolding lowest
-returns-2 c = (sym (first-all c.before.loop.invariant (search rules)), search rules)
+returns-2 c = (sym (first_all c.before.loop.invariant (search rules)), search rules)
 
 pub lowest-spec : {M : Type 1} → statement M
 lowest-spec =

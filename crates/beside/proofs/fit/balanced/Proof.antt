@@ -9,7 +9,7 @@ use native.Mathlib.Omega.{arith}
 use lib.Dec.{lit<}
 use Rattle.aes.specs.State.{at}
 use Rattle.beside.specs.Fitness.{patterns, even, balanced}
-use Rattle.beside.proofs.Walk.{Passed, first, next-x, next-y, next-z, failed}
+use Rattle.beside.proofs.Walk.{Passed, first, next_x, next_y, next_z, failed}
 use Rattle.beside.proofs.fit.balanced.Statement.{statement}
 use Rattle.beside.proofs.fit.balanced.Tie as tie
 
@@ -34,28 +34,28 @@ loop-again c =
     let tried = c.before.before in
     let inv = tried.before.before.loop.invariant in
     let holds = sym tried.even.ensures ∙ not-false _ c.before.if1.false in
-    (search rules, search rules, search rules, next-x inv.3 holds)
+    (search rules, search rules, search rules, next_x inv.3 holds)
 
 loop-again-2 : tie.Need-loop-preserved-2 invariant-loop decreases-loop
 loop-again-2 c =
     let tried = c.before.before.before in
     let inv = tried.before.before.loop.invariant in
     let holds = sym tried.even.ensures ∙ not-false _ c.before.before.if1.false in
-    (search rules, search rules, search rules, next-y inv.3 holds (omega arith))
+    (search rules, search rules, search rules, next_y inv.3 holds (omega arith))
 
 loop-again-3 : tie.Need-loop-preserved-3 invariant-loop decreases-loop
 loop-again-3 c =
     let tried = c.before.before.before in
     let inv = tried.before.before.loop.invariant in
     let holds = sym tried.even.ensures ∙ not-false _ c.before.before.if1.false in
-    (search rules, search rules, search rules, next-z inv.3 holds (omega arith) (omega arith))
+    (search rules, search rules, search rules, next_z inv.3 holds (omega arith) (omega arith))
 
 returns-2 : tie.Need-returns-2 invariant-loop decreases-loop
 unfolding balanced
 returns-2 c =
     let loop = c.before in
     let same : loop.loop.z ≡ 8 = omega arith in
-    sym (ap (λ (b : Bool). cond b 1 0) (rw same at loop.loop.invariant.3.lower-z))
+    sym (ap (λ (b : Bool). cond b 1 0) (rw same at loop.loop.invariant.3.lower_z))
 
 pub balanced-spec : {M : Type 1} → statement M
 balanced-spec =

@@ -3,7 +3,7 @@
 use borrow.Author.Rules.{rules}
 use mathlib.Core.Path.{◌∙◌}
 use native.Mathlib.Nat.{pos_of_ne-zero}
-use Rattle.beside.proofs.MaskedInversion.{mask_zero, bare_zero, covered_zero, by-quotients}
+use Rattle.beside.proofs.MaskedInversion.{mask_zero, bare_zero, covered_zero, by_quotients}
 use Rattle.beside.proofs.inversion.masked_inverse.Statement.{statement}
 use Rattle.beside.proofs.inversion.masked_inverse.Tie as tie
 
@@ -24,7 +24,7 @@ returns-4 c =
     let start = else2.before.before in
     c.quotient2.ensures
     ∙ rw (c.before.multiply.ensures, turned.inverse3.ensures, turned.before.quotient.ensures)
-    (by-quotients start.args.x start.args.r (pos_of_ne-zero else3.if3.false) start.ranges.x.fits
+    (by_quotients start.args.x start.args.r (pos_of_ne-zero else3.if3.false) start.ranges.x.fits
     (pos_of_ne-zero else2.before.if1.false) start.ranges.r.fits else2.if2.false)
 
 pub masked-inverse-spec : {M : Type 1} → statement M

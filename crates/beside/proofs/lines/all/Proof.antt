@@ -14,7 +14,7 @@ use Rattle.aes.specs.State.{at}
 use Rattle.aes.specs.Held.{Holds}
 use Rattle.aes.proofs.Part.{holds_none, holds_all}
 use Rattle.masks.specs.Mask.{in_row}
-use Rattle.masks.proofs.Row.{one_more, ended, row-size, row-lent}
+use Rattle.masks.proofs.Row.{one_more, ended, row_size, row_lent}
 use Rattle.beside.specs.Report.{counts_at, all_counts, least, greatest, picked, even_lines, picked_of, lowest_of, highest_of}
 use Rattle.beside.proofs.Even.{one_at_most}
 use Rattle.beside.proofs.lines.all.Statement.{statement}
@@ -78,7 +78,7 @@ again c =
     let lt = in-loop.loop-test.true in
     let one = line.line.ensures in (
       one_more lt,
-      row-lent (counts_at M) 8 (sized M) n 50176 l.lines _ (room lt) l.invariant.1 (put.put.ensures ∙ one),
+      row_lent (counts_at M) 8 (sized M) n 50176 l.lines _ (room lt) l.invariant.1 (put.put.ensures ∙ one),
       rw add-one (c.with.ensures.0 ∙ λ i. l.invariant.2 i + cond (below 8 (λ t. eqb (at (one i) t) 2)) 1 0),
       rw add-one (c.with.ensures.1 ∙ λ i. picked least (one i) 8 (l.invariant.3 i)),
       rw add-one (c.with.ensures.2 ∙ λ i. picked greatest (one i) 8 (l.invariant.4 i)),
@@ -89,7 +89,7 @@ returns c =
     let l = c.before.loop in
     let M : List ℕ = c.before.before.before.before.args.masks in
     let end : l.n ≡ 6272 = ended l.invariant.0 c.loop-test.false in (
-      holds_all 50176 (all_counts M) l.lines (rw end at l.invariant.1) (row-size (counts_at M) 8 (sized M) 6272),
+      holds_all 50176 (all_counts M) l.lines (rw end at l.invariant.1) (row_size (counts_at M) 8 (sized M) 6272),
       λ i. ((l.invariant.2 ∙ ap (even_lines (counts_at M)) end) i, (l.invariant.3 ∙ ap (lowest_of (counts_at M)) end) i, (l.invariant.4 ∙ ap (highest_of (counts_at M)) end) i),
     )
 

@@ -10,7 +10,7 @@ use lib.ListN.{length}
 use Rattle.aes.specs.Held.{Holds}
 use Rattle.aes.proofs.Part.{holds_none, holds_all}
 use Rattle.masks.specs.Mask.{in_row}
-use Rattle.masks.proofs.Row.{one_more, ended, row-size, row-lent}
+use Rattle.masks.proofs.Row.{one_more, ended, row_size, row_lent}
 use Rattle.cbc.specs.Cbc.{link}
 use Rattle.cbc.proofs.Links.{part_size, last, made, link_size, at_first, next_last, whole_row}
 use Rattle.cbc.proofs.chain.cbc.Statement.{statement}
@@ -62,7 +62,7 @@ again c =
     linked.link.ensures ∙ (λ i. link a.back w (block.sixteen-at.ensures i) (l.invariant.1 i)) in (
       one_more test.loop-test.true,
       c.ciphertext.ensures ∙ (λ i. cond a.back (block.sixteen-at.ensures i) (e i)) ∙ next_last w a.start a.input.now a.back l.k,
-      row-lent (made a.back w a.start a.input.now) 16 (λ j. link_size a.back w _ _) l.k (16 * a.n) l.output _ (room test.loop-test.true) l.invariant.2 (c.before.before.before.copy.ensures ∙ e),
+      row_lent (made a.back w a.start a.input.now) 16 (λ j. link_size a.back w _ _) l.k (16 * a.n) l.output _ (room test.loop-test.true) l.invariant.2 (c.before.before.before.copy.ensures ∙ e),
     )
 
 returns : tie.Need-returns invariant-loop decreases-loop
@@ -73,7 +73,7 @@ returns c =
     let f : ℕ → List ℕ = made a.back a.schedule.now a.start a.input.now in
     let all : l.k ≡ a.n = ended l.invariant.0 c.loop-test.false in
     let n : length a.input.now / 16 ≡ a.n = omega (arith, start.requires.2) in
-    holds_all (16 * a.n) (in_row f a.n) l.output (rw all at l.invariant.2) (row-size f 16 (λ j. link_size a.back a.schedule.now _ _) a.n)
+    holds_all (16 * a.n) (in_row f a.n) l.output (rw all at l.invariant.2) (row_size f 16 (λ j. link_size a.back a.schedule.now _ _) a.n)
     ∙ whole_row a.schedule.now a.start a.input.now a.back n
 
 pub cbc-spec : {M : Type 1} → statement M

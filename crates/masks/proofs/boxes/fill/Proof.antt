@@ -34,8 +34,8 @@ begin c = (omega arith, c.before.requires.1, λ f same. holds_none 256 _ c.befor
 room : (b : ℕ) → b < 16 → 16 * b + 16 ≤ 256
 room b lt = omega (arith, lt)
 
-row-lent : tie.Need-row-requires invariant-loop decreases-loop
-row-lent c κs =
+row_lent : tie.Need-row-requires invariant-loop decreases-loop
+row_lent c κs =
     let in-loop = c.before.before in
     let l = in-loop.before.loop in
     let start = in-loop.before.before.before in
@@ -69,4 +69,4 @@ returns c =
     λ f same. holds_all 256 _ l.part (rw e at (l.invariant.2 f same)) (table-length _ 256)
 
 pub fill_spec : {M : Type 1} → statement M
-fill_spec = tie.close (tie.spec invariant-loop decreases-loop begin (λ c. search rules) (λ c. let high = row_high c.before.before.loop.b c.before.before.before.before.args.«from» c.before.loop-test.true (search rules) in search rules) (λ c. let high = row_high c.before.before.loop.b c.before.before.before.before.args.«from» c.before.loop-test.true (search rules) in search rules) (λ c. search rules) row-lent (λ c. search rules) (λ c. search rules) again (λ c. search rules) returns)
+fill_spec = tie.close (tie.spec invariant-loop decreases-loop begin (λ c. search rules) (λ c. let high = row_high c.before.before.loop.b c.before.before.before.before.args.«from» c.before.loop-test.true (search rules) in search rules) (λ c. let high = row_high c.before.before.loop.b c.before.before.before.before.args.«from» c.before.loop-test.true (search rules) in search rules) (λ c. search rules) row_lent (λ c. search rules) (λ c. search rules) again (λ c. search rules) returns)

@@ -13,7 +13,7 @@ use Rattle.aes.specs.Held.{Holds}
 use Rattle.aes.proofs.Listed.{table-length}
 use Rattle.aes.proofs.Part.{holds_none, holds_all}
 use Rattle.masks.specs.Mask.{in_row, masked_box, masked_boxes}
-use Rattle.masks.proofs.Row.{one_more, ended, row-size, row-lent}
+use Rattle.masks.proofs.Row.{one_more, ended, row_size, row_lent}
 use Rattle.masks.proofs.boxes.filled.Statement.{statement}
 use Rattle.masks.proofs.boxes.filled.Tie as tie
 
@@ -66,7 +66,7 @@ again c =
       c.next2.ensures.0 ∙ stepped l.l.0 n 1 l.invariant.1,
       search rules,
       λ S e.
-          row-lent (box S M a.step) 256 (box-size S M a.step) n 4096 l.boxes _ (room n lt) (l.invariant.3 S e)
+          row_lent (box S M a.step) 256 (box-size S M a.step) n 4096 l.boxes _ (room n lt) (l.invariant.3 S e)
           (fill.fill.ensures S (made.turned.ensures.1 S e) ∙ λ i. table (λ x. S (x ⊕ at M (taken i)) ⊕ at M (given i)) 256),
     )
 
@@ -76,7 +76,7 @@ returns c S e =
     let l = c.before.loop in
     let a = c.before.before.before.before.before.args in
     let end : l.n ≡ 16 = ended l.invariant.0 c.loop-test.false in
-    holds_all 4096 (in_row (box S a.t2 a.step) 16) l.boxes (rw end at (l.invariant.3 S e)) (row-size (box S a.t2 a.step) 256 (box-size S a.t2 a.step) 16)
+    holds_all 4096 (in_row (box S a.t2 a.step) 16) l.boxes (rw end at (l.invariant.3 S e)) (row_size (box S a.t2 a.step) 256 (box-size S a.t2 a.step) 16)
 
 pub filled-spec : {M : Type 1} → statement M
 filled-spec =

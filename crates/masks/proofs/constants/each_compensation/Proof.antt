@@ -23,8 +23,8 @@ decreases-loop covers r₀ n₀ r n = 16 - n
 begin : tie.Need-loop-init invariant-loop decreases-loop
 begin c = (lit≤ tt, made_none Compensation _ _ c.before.requires)
 
-row-lent : tie.Need-row-requires invariant-loop decreases-loop
-row-lent c κs =
+row_lent : tie.Need-row-requires invariant-loop decreases-loop
+row_lent c κs =
     let made = c.before.before in
     let in-loop = made.before.before.before.before in
     let l = in-loop.before.loop in
@@ -48,4 +48,4 @@ returns c =
 pub each-compensation-spec : {M : Type 1} → statement M
 each-compensation-spec =
     tie.close
-    (tie.spec invariant-loop decreases-loop begin (λ c κs. search rules) (λ c κs. search rules) (λ c κs. search rules) (λ c κs. search rules) (λ c. search rules) (λ c. search rules) row-lent (λ c. search rules) (λ c. search rules) again (λ c. search rules) returns)
+    (tie.spec invariant-loop decreases-loop begin (λ c κs. search rules) (λ c κs. search rules) (λ c κs. search rules) (λ c κs. search rules) (λ c. search rules) (λ c. search rules) row_lent (λ c. search rules) (λ c. search rules) again (λ c. search rules) returns)

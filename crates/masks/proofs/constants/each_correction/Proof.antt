@@ -22,8 +22,8 @@ decreases-loop covers rows₀ columns₀ n₀ rows columns n = 16 - n
 begin : tie.Need-loop-init invariant-loop decreases-loop
 begin c = let size = c.before.before.requires in (lit≤ tt, made_none AfterRows _ _ size.0, made_none AfterColumns _ _ size.1)
 
-row-lent : tie.Need-row-requires invariant-loop decreases-loop
-row-lent c κs =
+row_lent : tie.Need-row-requires invariant-loop decreases-loop
+row_lent c κs =
     let made = c.before.before in
     let in-loop = made.before.before.before in
     let l = in-loop.before.loop in
@@ -62,4 +62,4 @@ returns c =
 pub each-correction-spec : {M : Type 1} → statement M
 each-correction-spec =
     tie.close
-    (tie.spec invariant-loop decreases-loop begin (λ c κs. search rules) (λ c κs. search rules) (λ c κs. search rules) (λ c. search rules) (λ c. search rules) row-lent (λ c κs. search rules) (λ c κs. search rules) (λ c. search rules) (λ c. search rules) column-lent (λ c. search rules) (λ c. search rules) again (λ c. search rules) (λ c. search rules) returns)
+    (tie.spec invariant-loop decreases-loop begin (λ c κs. search rules) (λ c κs. search rules) (λ c κs. search rules) (λ c. search rules) (λ c. search rules) row_lent (λ c κs. search rules) (λ c κs. search rules) (λ c. search rules) (λ c. search rules) column-lent (λ c. search rules) (λ c. search rules) again (λ c. search rules) (λ c. search rules) returns)

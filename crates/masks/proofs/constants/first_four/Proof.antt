@@ -17,7 +17,7 @@ use Rattle.masks.specs.Mask.{one, twice}
 use Rattle.masks.specs.Kinds.{constant_of}
 use Rattle.masks.proofs.Row.{one_more, ended, row_label}
 use Rattle.masks.proofs.Stored.{laid_out}
-use Rattle.masks.proofs.Columns.{row_byte, turning, kind_sized, first-four}
+use Rattle.masks.proofs.Columns.{row_byte, turning, kind_sized, first_four}
 use Rattle.masks.proofs.constants.first_four.Statement.{statement}
 use Rattle.masks.proofs.constants.first_four.Tie as tie
 
@@ -38,8 +38,8 @@ small n lt = omega (arith, lt)
 room : (n : ℕ) → n < 4 → 16 * n + 16 ≤ 256
 room n lt = omega (arith, lt)
 
-row-lent : tie.Need-row-requires invariant-loop decreases-loop
-row-lent c κs =
+row_lent : tie.Need-row-requires invariant-loop decreases-loop
+row_lent c κs =
     let made = c.before.before in
     let in-loop = made.before.before in
     let l = in-loop.before.loop in
@@ -76,9 +76,9 @@ returns c =
     let e : l.n ≡ 4 = ended l.invariant.0 c.loop-test.false in
     let made = c.before.before in
     let a = made.before.before.args in
-    rw (first-four a.kind a.masks (one 0)) (rw e at (l.invariant.3 a.masks made.twice.ensures))
+    rw (first_four a.kind a.masks (one 0)) (rw e at (l.invariant.3 a.masks made.twice.ensures))
 
 pub first-four-spec : {M : Type 1} → statement M
 first-four-spec =
     tie.close
-    (tie.spec invariant-loop decreases-loop (λ c κs. search rules) begin (λ c κs. search rules) (λ c κs. search rules) (λ c. search rules) (λ c. search rules) row-lent (λ c κs. search rules) (λ c. search rules) (λ c. search rules) again (λ c. search rules) returns)
+    (tie.spec invariant-loop decreases-loop (λ c κs. search rules) begin (λ c κs. search rules) (λ c κs. search rules) (λ c. search rules) (λ c. search rules) row_lent (λ c κs. search rules) (λ c. search rules) (λ c. search rules) again (λ c. search rules) returns)

@@ -33,8 +33,8 @@ begin c = let size = c.before.requires.1 in (lit≤ tt, size, λ M e. holds_none
 from : (n : ℕ) → n < 16 → n + 16 ≤ 32
 from n lt = omega (arith, lt)
 
-row-lent : tie.Need-row-requires invariant-loop decreases-loop
-row-lent c κs =
+row_lent : tie.Need-row-requires invariant-loop decreases-loop
+row_lent c κs =
     let in-loop = c.before.before in
     let l = in-loop.before.loop in
     let lt = in-loop.loop-test.true in
@@ -62,4 +62,4 @@ returns c =
 pub in-rows-spec : {M : Type 1} → statement M
 in-rows-spec =
     tie.close
-    (tie.spec invariant-loop decreases-loop begin (λ c. search rules) row-lent (λ c. search rules) (λ c. search rules) again (λ c. search rules) returns)
+    (tie.spec invariant-loop decreases-loop begin (λ c. search rules) row_lent (λ c. search rules) (λ c. search rules) again (λ c. search rules) returns)

@@ -14,7 +14,7 @@ use Rattle.aes.proofs.Part.{holds_all}
 use Rattle.masks.specs.declared.constants.Kind.{Kind}
 use Rattle.masks.proofs.Row.{ended}
 use Rattle.masks.specs.Mask.{one}
-use Rattle.masks.proofs.Columns.{row_byte, turning, first-four, all_sixteen, twelve, four}
+use Rattle.masks.proofs.Columns.{row_byte, turning, first_four, all_sixteen, twelve, four}
 use Rattle.masks.proofs.constants.made.Statement.{statement}
 use Rattle.masks.proofs.constants.made.Tie as tie
 
@@ -27,7 +27,7 @@ abbrev decreases-loop : tie.decreases-loop
 decreases-loop r₀ y₀ r y = 256 - y
 
 begin : tie.Need-loop-init invariant-loop decreases-loop
-begin c = (lit≤ tt, lit≤ tt, refl, c.first-four.ensures.size, λ k M h. h)
+begin c = (lit≤ tt, lit≤ tt, refl, c.first_four.ensures.size, λ k M h. h)
 
 room : (y : ℕ) → y % 16 ≡ 0 → y < 256 → (y + 12 ≤ 256) × (y + 12 + 4 ≤ 256)
 room y m lt = (omega (arith, m, lt), omega (arith, m, lt))
@@ -68,7 +68,7 @@ returns c =
     let made = c.before.before in
     let a = made.before.before.args in
     let e : l.y ≡ 256 = ended l.invariant.1 c.loop-test.false in
-    let all : Holds 256 (table (row_byte (turning a.kind a.masks)) 256) l.r = rw e at (l.invariant.4 a.kind a.masks (rw (first-four a.kind a.masks (one 0)) at made.first-four.ensures)) in
+    let all : Holds 256 (table (row_byte (turning a.kind a.masks)) 256) l.r = rw e at (l.invariant.4 a.kind a.masks (rw (first_four a.kind a.masks (one 0)) at made.first_four.ensures)) in
     holds_all 256 _ l.r all (table-length (row_byte (turning a.kind a.masks)) 256) ∙ sym (all_sixteen a.kind a.masks (one 0))
 
 pub made-spec : {M : Type 1} → statement M

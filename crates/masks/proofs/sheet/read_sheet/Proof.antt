@@ -24,20 +24,20 @@ returns c =
     let a = told.before.before.before.before.args in
     refused (0, a.masks.now) (step_of a.sheet.now, masks_of a.sheet.now) [] (read_checks a.sheet.now a.masks.now) told.read-refusal.ensures c.if1.true
 
-row-lent : tie.Need-row-requires
-row-lent c κs =
+row_lent : tie.Need-row-requires
+row_lent c κs =
     let done = c.before in
     let told = done.before in
     let a = told.before.before.before.before.args in
     let p = readable a.sheet.now a.masks.now told.read-refusal.ensures done.if1.false in
-    (at_least (eqb (version a.sheet.now) 1) p.sheet-size, rw p.masks-size (lit≤ tt))
+    (at_least (eqb (version a.sheet.now) 1) p.sheet_size, rw p.masks_size (lit≤ tt))
 
 whole : tie.Need-step-requires
 whole c κs =
     let done = c.before.before.before.before in
     let told = done.before in
     let a = told.before.before.before.before.args in
-    (readable a.sheet.now a.masks.now told.read-refusal.ensures done.if1.false).sheet-size
+    (readable a.sheet.now a.masks.now told.read-refusal.ensures done.if1.false).sheet_size
 
 returns-2 : tie.Need-returns-2
 unfolding telling table
@@ -49,10 +49,10 @@ returns-2 c =
     let sheet : List ℕ = a.sheet.now in
     let p = readable sheet a.masks.now told.read-refusal.ensures done.if1.false in
     let f : ℕ → ℕ = λ i. at sheet (5 + i) in
-    let copied = row.row.ensures.1 16 f (holds_none 16 a.masks.now p.masks-size) (λ i h. xor_zero _ ∙ ap f (sym (zero-add i))) in
-    let masks-read = holds_all 16 (table f 16) _ copied (table-length f 16) ∙ masks_are sheet (at_least (eqb (version sheet) 1) p.sheet-size) in
+    let copied = row.row.ensures.1 16 f (holds_none 16 a.masks.now p.masks_size) (λ i h. xor_zero _ ∙ ap f (sym (zero-add i))) in
+    let masks-read = holds_all 16 (table f 16) _ copied (table-length f 16) ∙ masks_are sheet (at_least (eqb (version sheet) 1) p.sheet_size) in
     (λ i. (0, (c.step.ensures i, masks-read i)))
     ∙ passed (0, a.masks.now) (step_of sheet, masks_of sheet) [] (read_checks sheet a.masks.now) tt told.read-refusal.ensures done.if1.false
 
 pub read-sheet-spec : {M : Type 1} → statement M
-read-sheet-spec = tie.close (tie.spec (λ c κs. search rules) (λ c. search rules) returns row-lent whole (λ c. search rules) returns-2)
+read-sheet-spec = tie.close (tie.spec (λ c κs. search rules) (λ c. search rules) returns row_lent whole (λ c. search rules) returns-2)

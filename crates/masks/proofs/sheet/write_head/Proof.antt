@@ -10,8 +10,8 @@ use Rattle.masks.proofs.Headed.{stored, head_stored, head_at, head_size, head_wh
 use Rattle.masks.proofs.sheet.write_head.Statement.{statement}
 use Rattle.masks.proofs.sheet.write_head.Tie as tie
 
-row-lent : tie.Need-row-requires
-row-lent c κs =
+row_lent : tie.Need-row-requires
+row_lent c κs =
     let start = c.before.before.before in
     let size : length (stored start.args.version start.args.part.now) ≡ 21 = (head_stored start.args.version start.args.part.now start.args.masks.now start.requires.1).size in
     (rw start.requires.0 (lit≤ tt), rw size (lit≤ tt))
@@ -33,4 +33,4 @@ same_length c =
 pub write-head-spec : {M : Type 1} → statement M
 write-head-spec =
     tie.close
-    (tie.spec (λ c. search rules) (λ c. search rules) (λ c. search (rules, c.before.before.requires.1)) (λ c. search (rules, c.before.before.requires.1) depth 7) (λ c. search (rules, c.before.before.requires.1) depth 8) row-lent same_length returns)
+    (tie.spec (λ c. search rules) (λ c. search rules) (λ c. search (rules, c.before.before.requires.1)) (λ c. search (rules, c.before.before.requires.1) depth 7) (λ c. search (rules, c.before.before.requires.1) depth 8) row_lent same_length returns)

@@ -32,7 +32,7 @@ head-lent c κs =
     let told = one.before.before in
     let a = told.before.before.before.before.args in
     let p = writable a.masks.now a.step a.sheet.now told.write-refusal.ensures one.before.if1.false in
-    (p.masks-size, rw (eq-eqb a.step 1 one.if2.true) at p.sheet-size)
+    (p.masks_size, rw (eq-eqb a.step 1 one.if2.true) at p.sheet_size)
 
 returns-2 : tie.Need-returns-2
 unfolding telling
@@ -49,7 +49,7 @@ within c =
     let told = c.before.before in
     let a = told.before.before.before.before.args in
     let p = writable a.masks.now a.step a.sheet.now told.write-refusal.ensures c.before.if1.false in
-    let least = at_least (eqb a.step 1) p.sheet-size in
+    let least = at_least (eqb a.step 1) p.sheet_size in
     omega (arith, least)
 
 head-lent-2 : tie.Need-write-head-requires-2
@@ -58,7 +58,7 @@ head-lent-2 c κs =
     let told = other.before.before in
     let a = told.before.before.before.before.args in
     let p = writable a.masks.now a.step a.sheet.now told.write-refusal.ensures other.before.if1.false in
-    (p.masks-size, length-take-le 21 a.sheet.now (at_least (eqb a.step 1) p.sheet-size))
+    (p.masks_size, length-take-le 21 a.sheet.now (at_least (eqb a.step 1) p.sheet_size))
 
 last_within : tie.Need-slice-write-sheet
 last_within c =
@@ -67,8 +67,8 @@ last_within c =
     let told = other.before.before in
     let a = told.before.before.before.before.args in
     let p = writable a.masks.now a.step a.sheet.now told.write-refusal.ensures other.before.if1.false in
-    let size : length a.sheet.now ≡ 22 = with_step (eqb a.step 1) (ne_eqb a.step 1 other.if2.false) p.sheet-size in
-    let room = (back_room {n = 22} {xs = a.sheet.now} 0 21 (record { room = size }) head.write-head2.ensures (head_size 2 a.masks.now p.masks-size) (lit≤ tt)).room in
+    let size : length a.sheet.now ≡ 22 = with_step (eqb a.step 1) (ne_eqb a.step 1 other.if2.false) p.sheet_size in
+    let room = (back_room {n = 22} {xs = a.sheet.now} 0 21 (record { room = size }) head.write-head2.ensures (head_size 2 a.masks.now p.masks_size) (lit≤ tt)).room in
     omega (arith, room)
 
 returns-3 : tie.Need-returns-3
@@ -79,8 +79,8 @@ returns-3 c =
     let told = other.before.before in
     let a = told.before.before.before.before.args in
     let p = writable a.masks.now a.step a.sheet.now told.write-refusal.ensures other.before.if1.false in
-    let size : length a.sheet.now ≡ 22 = with_step (eqb a.step 1) (ne_eqb a.step 1 other.if2.false) p.sheet-size in
-    (λ i. (0, (stepped_head a.sheet.now _ a.masks.now a.step size p.masks-size head.write-head2.ensures ∙ second_version a.masks.now a.step other.if2.false) i))
+    let size : length a.sheet.now ≡ 22 = with_step (eqb a.step 1) (ne_eqb a.step 1 other.if2.false) p.sheet_size in
+    (λ i. (0, (stepped_head a.sheet.now _ a.masks.now a.step size p.masks_size head.write-head2.ensures ∙ second_version a.masks.now a.step other.if2.false) i))
     ∙ passed a.sheet.now (sheet_of a.masks.now a.step) [] (checks a.masks.now a.step a.sheet.now) tt told.write-refusal.ensures other.before.if1.false
 
 pub write-sheet-spec : {M : Type 1} → statement M

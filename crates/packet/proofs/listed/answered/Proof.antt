@@ -6,7 +6,7 @@ use Prim.Native.Nat.{ℕ}
 use native.Mathlib.Omega.{arith}
 use borrow.Author.Rules.{rules}
 use borrow.Author.Tests.{not-true, not-false}
-use Rattle.packet.proofs.Outcome.{pipe_is, unlisted, field-wrong}
+use Rattle.packet.proofs.Outcome.{pipe_is, unlisted, field_wrong}
 use Rattle.packet.proofs.listed.answered.Statement.{statement}
 use Rattle.packet.proofs.listed.answered.Tie as tie
 
@@ -24,7 +24,7 @@ returns-2 c =
     let field = c.before in
     let found = field.before.before in
     let a = found.before.before.before.before.before.args in
-    field-wrong a.packet.now a.out.now a.pipes.now a.odd (pipe_is a.pipes.now a.packet.now found.pipe-of.ensures found.before.pid-of.ensures) (omega (arith, field.before.if1.false)) a.back (sym field.field-right.ensures ∙ not-true _ c.if2.true)
+    field_wrong a.packet.now a.out.now a.pipes.now a.odd (pipe_is a.pipes.now a.packet.now found.pipe-of.ensures found.before.pid-of.ensures) (omega (arith, field.before.if1.false)) a.back (sym field.field-right.ensures ∙ not-true _ c.if2.true)
 
 asks : tie.Need-descrambled-requires
 asks c κs =

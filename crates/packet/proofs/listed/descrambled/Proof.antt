@@ -5,7 +5,7 @@ use mathlib.Core.Bool.{false}
 use mathlib.Core.List.{List}
 use Prim.Native.Nat.{ℕ}
 use borrow.Author.Rules.{rules}
-use Rattle.packet.proofs.Outcome.{clear, shut, opened, opened-near}
+use Rattle.packet.proofs.Outcome.{clear, shut, opened, opened_near}
 use Rattle.packet.proofs.listed.descrambled.Statement.{statement}
 use Rattle.packet.proofs.listed.descrambled.Tie as tie
 
@@ -31,7 +31,7 @@ asks c κs =
     let told = c.before.before in
     let bits = told.before.before in
     let start = bits.before.before.before.before in
-    (start.requires.0, start.requires.1, start.requires.2, start.requires.3, opened-near start.args.packet.now told.is-long.ensures bits.bits_of.result c.before.if2.false, search rules)
+    (start.requires.0, start.requires.1, start.requires.2, start.requires.3, opened_near start.args.packet.now told.is-long.ensures bits.bits_of.result c.before.if2.false, search rules)
 
 returns-3 : tie.Need-returns-3
 returns-3 c =

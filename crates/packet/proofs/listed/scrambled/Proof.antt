@@ -5,7 +5,7 @@ use mathlib.Core.List.{List}
 use Prim.Native.Nat.{ℕ, ◌≤◌}
 use borrow.Author.Rules.{rules}
 use Rattle.packet.specs.Packet.{parity}
-use Rattle.packet.proofs.Outcome.{unclear, too_short, sent, long-near, parity_small}
+use Rattle.packet.proofs.Outcome.{unclear, too_short, sent, long_near, parity_small}
 use Rattle.packet.proofs.listed.scrambled.Statement.{statement}
 use Rattle.packet.proofs.listed.scrambled.Tie as tie
 
@@ -30,7 +30,7 @@ asks c κs =
     let near = c.before.before in
     let start = near.before.before.before.before.before.before.before in
     let small : parity start.args.odd ≤ 3 = parity_small start.args.odd in
-    (start.requires.0, start.requires.1, start.requires.2, start.requires.3, long-near start.args.packet.now near.before.is-long.ensures near.if2.false, rw c.before.parity.ensures small)
+    (start.requires.0, start.requires.1, start.requires.2, start.requires.3, long_near start.args.packet.now near.before.is-long.ensures near.if2.false, rw c.before.parity.ensures small)
 
 returns-3 : tie.Need-returns-3
 returns-3 c =

@@ -10,7 +10,7 @@ use Rattle.aes.specs.State.{at, Bytes}
 use Rattle.aes.specs.Record.{run, bytes}
 use Rattle.aes.proofs.Steps.{byte}
 use Rattle.aes.proofs.Undo.{add_size}
-use Rattle.aes.proofs.Written.{Written, turns, turns_length, recorded_one, written-first, written-turn, written_step, written_all}
+use Rattle.aes.proofs.Written.{Written, turns, turns_length, recorded_one, written_first, written_turn, written_step, written_all}
 use Rattle.masks.specs.Mask.{◌⊞◌, advanced, mask}
 use Rattle.runs.specs.Back.{Back, block, uncovered, masked_back_record}
 use Rattle.runs.specs.Lent.{back_steps}
@@ -52,7 +52,7 @@ begin c =
     let k = covering.cover.ensures in
     let size : length covering.cover.result.bytes ≡ 16 = ap length k.0 ∙ add_size _ _ in
     let none = none_done a.n covering.cover.result.round.0 (k.2 ∙ counted.last.ensures) in
-    let w = written-first (back_sized _ _ _ _ _ _ _ _ _) size block a.states.now (room a.n) start.requires.6 refl k.3 in
+    let w = written_first (back_sized _ _ _ _ _ _ _ _ _) size block a.states.now (room a.n) start.requires.6 refl k.3 in
     (first_label _ a.masks.1 _ _ (rw k.1 start.requires.7) refl none.0, none.1, (search rules, size, w.held.size, w))
 
 point-room : (n m : ℕ) → 0 < n → m < 6 * n - 1 → m + 1 < 6 * n
@@ -84,7 +84,7 @@ again c =
     let h = l.invariant.2 in
     let lt : l.m < 6 * n - 1 = in-loop.loop-test.true in
     let made = k.0 _ _ l.invariant.0 in
-    let w = written-turn (back_sized _ _ _ _ _ _ _ _ _) h.1 block after 16 (λ i. refl) l.m (turn-room n l.m start.requires.0 lt) h.3 (recorded_one made.0 k.2) in
+    let w = written_turn (back_sized _ _ _ _ _ _ _ _ _) h.1 block after 16 (λ i. refl) l.m (turn-room n l.m start.requires.0 lt) h.3 (recorded_one made.0 k.2) in
     (made.1, next-round point.point.result.round.0 l.m n k.1, (one_more lt, h.1, w.held.size, w))
 
 -- the round at the end

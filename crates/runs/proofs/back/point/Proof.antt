@@ -4,7 +4,7 @@ use mathlib.Core.Path.{◌≡◌}
 use Prim.Native.Nat.{ℕ, ◌+◌, ◌*◌, ◌/◌, ◌%◌, ◌<◌, ◌≤◌}
 use native.Mathlib.Omega.{arith}
 use borrow.Author.Rules.{rules}
-use Rattle.runs.proofs.BackPointSteps.{first_done, unshifted-done, corrected-done, unboxed-done, keyed-done, unmixed-done, restored-done}
+use Rattle.runs.proofs.BackPointSteps.{first_done, unshifted_done, corrected_done, unboxed_done, keyed_done, unmixed_done, restored_done}
 use Rattle.runs.proofs.back.point.Statement.{statement}
 use Rattle.runs.proofs.back.point.Tie as tie
 
@@ -51,35 +51,35 @@ unshifted-is c =
     let step = c.before.before in
     let m = step.before.before in
     let k = step.inv-shift-rows.ensures in
-    unshifted-done _ _ _ _ _ _ _ _ _ _ _ m.before.before.before.requires.3 m.match.keys1 k.0 k.1 k.2 k.3
+    unshifted_done _ _ _ _ _ _ _ _ _ _ _ m.before.before.before.requires.3 m.match.keys1 k.0 k.1 k.2 k.3
 
 corrected-is : tie.Need-returns-3
 corrected-is c =
     let step = c.before.before in
     let m = step.before.before in
     let k = step.compensate.ensures in
-    corrected-done _ _ _ _ _ _ _ _ _ _ _ m.before.before.before.requires.3 m.match.keys2 k.0 k.1 k.2 k.3
+    corrected_done _ _ _ _ _ _ _ _ _ _ _ m.before.before.before.requires.3 m.match.keys2 k.0 k.1 k.2 k.3
 
 unboxed-is : tie.Need-returns-4
 unboxed-is c =
     let step = c.before.before in
     let m = step.before.before in
     let k = step.inverse-boxes.ensures in
-    unboxed-done _ _ _ _ _ _ _ _ _ _ _ m.before.before.before.requires.3 _ m.match.keys3 k.0 k.1 k.2 k.3
+    unboxed_done _ _ _ _ _ _ _ _ _ _ _ m.before.before.before.requires.3 _ m.match.keys3 k.0 k.1 k.2 k.3
 
 keyed-is : tie.Need-returns-5
 keyed-is c =
     let step = c.before.before in
     let m = step.before.before in
     let k = step.add-key.ensures in
-    keyed-done _ _ _ _ _ _ _ _ _ _ _ m.before.before.before.requires.3 m.match.keys4 k.0 k.1 k.2 k.3
+    keyed_done _ _ _ _ _ _ _ _ _ _ _ m.before.before.before.requires.3 m.match.keys4 k.0 k.1 k.2 k.3
 
 unmixed-is : tie.Need-returns-6
 unmixed-is c =
     let step = c.before.before in
     let m = step.before.before in
     let k = step.inv-mix-columns.ensures in
-    unmixed-done _ _ _ _ _ _ _ _ _ _ _ m.before.before.before.requires.3 m.match.keys5 k.0 k.1 k.2 k.3
+    unmixed_done _ _ _ _ _ _ _ _ _ _ _ m.before.before.before.requires.3 m.match.keys5 k.0 k.1 k.2 k.3
 
 restored-is : tie.Need-returns-7
 restored-is c =
@@ -89,7 +89,7 @@ restored-is c =
     let start = m.before.before.before in
     let k = step.compensate2.ensures in
     let rest = m.match.rest in
-    restored-done _ _ _ _ _ _ _ _ _ _ _ start.requires.3 (other start.args.m rest.0.0.0.0.1 rest.0.0.0.1 rest.0.0.1 rest.0.1 rest.1) here.if1.false k.0 k.1 k.2 k.3
+    restored_done _ _ _ _ _ _ _ _ _ _ _ start.requires.3 (other start.args.m rest.0.0.0.0.1 rest.0.0.0.1 rest.0.0.1 rest.0.1 rest.1) here.if1.false k.0 k.1 k.2 k.3
 
 pub point-spec : {M : Type 1} → statement M
 point-spec =

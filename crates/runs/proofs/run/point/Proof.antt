@@ -4,7 +4,7 @@ use mathlib.Core.Path.{◌≡◌}
 use Prim.Native.Nat.{ℕ, ◌%◌}
 use native.Mathlib.Omega.{arith}
 use borrow.Author.Rules.{rules}
-use Rattle.runs.proofs.Points.{keyed-done, boxed-done, shifted-done, mixed-done, closed-done, compensated-done}
+use Rattle.runs.proofs.Points.{keyed_done, boxed_done, shifted_done, mixed_done, closed_done, compensated_done}
 use Rattle.runs.proofs.run.point.Statement.{statement}
 use Rattle.runs.proofs.run.point.Tie as tie
 
@@ -16,21 +16,21 @@ keyed-is c =
     let step = c.before.before in
     let m = step.before.before in
     let k = step.add-key.ensures in
-    keyed-done _ _ _ _ _ _ _ _ _ _ m.before.before.before.requires.3 m.match.keys1 k.0 k.1 k.2 k.3
+    keyed_done _ _ _ _ _ _ _ _ _ _ m.before.before.before.requires.3 m.match.keys1 k.0 k.1 k.2 k.3
 
 boxed_is : tie.Need-returns-3
 boxed_is c =
     let step = c.before.before in
     let m = step.before.before in
     let k = step.boxes.ensures in
-    boxed-done _ _ _ _ _ _ _ _ _ _ m.before.before.before.requires.3 m.match.keys2 k.0 k.1 k.2 k.3
+    boxed_done _ _ _ _ _ _ _ _ _ _ m.before.before.before.requires.3 m.match.keys2 k.0 k.1 k.2 k.3
 
 shifted-is : tie.Need-returns-4
 shifted-is c =
     let step = c.before.before in
     let m = step.before.before in
     let k = step.shift-rows.ensures in
-    shifted-done _ _ _ _ _ _ _ _ _ _ m.before.before.before.requires.3 m.match.keys3 k.0 k.1 k.2 k.3
+    shifted_done _ _ _ _ _ _ _ _ _ _ m.before.before.before.requires.3 m.match.keys3 k.0 k.1 k.2 k.3
 
 mixed_is : tie.Need-returns-5
 mixed_is c =
@@ -38,7 +38,7 @@ mixed_is c =
     let here = step.before.before in
     let m = here.before in
     let k = step.mix-columns.ensures in
-    mixed-done _ _ _ _ _ _ _ _ _ _ m.before.before.before.requires.3 m.match.keys4 here.if1.false k.0 k.1 k.2 k.3
+    mixed_done _ _ _ _ _ _ _ _ _ _ m.before.before.before.requires.3 m.match.keys4 here.if1.false k.0 k.1 k.2 k.3
 
 compensated-is : tie.Need-returns-6
 compensated-is c =
@@ -47,14 +47,14 @@ compensated-is c =
     let start = m.before.before.before in
     let k = step.compensate.ensures in
     let others = m.match.rest in
-    compensated-done _ _ _ _ _ _ _ _ _ _ start.requires.3 start.requires.0 (fourth start.args.m others.0.0.0.1 others.0.0.1 others.0.1 others.1) k.0 k.1 k.2 k.3
+    compensated_done _ _ _ _ _ _ _ _ _ _ start.requires.3 start.requires.0 (fourth start.args.m others.0.0.0.1 others.0.0.1 others.0.1 others.1) k.0 k.1 k.2 k.3
 
 closed_is : tie.Need-returns
 closed_is c =
     let step = c.before.before in
     let here = step.before.before in
     let k = step.add-key2.ensures in
-    closed-done _ _ _ _ _ _ _ _ _ _ here.before.before.before.before.requires.3 here.if1.true k.0 k.1 k.2 k.3
+    closed_done _ _ _ _ _ _ _ _ _ _ here.before.before.before.before.requires.3 here.if1.true k.0 k.1 k.2 k.3
 
 pub point-spec : {M : Type 1} → statement M
 point-spec =

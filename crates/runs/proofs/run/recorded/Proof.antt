@@ -10,13 +10,13 @@ use Rattle.aes.specs.State.{at, shift_rows, Bytes}
 use Rattle.aes.specs.Record.{block, points, bytes}
 use Rattle.aes.proofs.Steps.{byte}
 use Rattle.aes.proofs.Undo.{add_size}
-use Rattle.aes.proofs.Written.{Written, turns, rounds-bytes, written-first, written-whole}
+use Rattle.aes.proofs.Written.{Written, turns, rounds-bytes, written_first, written-whole}
 use Rattle.masks.specs.Mask.{◌⊞◌, advanced, mask}
 use Rattle.runs.specs.Run.{masked_record}
 use Rattle.runs.specs.Lent.{steps}
 use Rattle.masks.proofs.Row.{one_more, ended}
 use Rattle.runs.proofs.Labels.{first_label, label-below}
-use Rattle.runs.proofs.LentSteps.{steps_sized, after, after_all, after-written, uncovering-last, lent-record}
+use Rattle.runs.proofs.LentSteps.{steps_sized, after, after_all, after-written, uncovering-last, lent_record}
 use Rattle.runs.proofs.Owned.{field_bytes}
 use Rattle.runs.proofs.run.recorded.Statement.{statement}
 use Rattle.runs.proofs.run.recorded.Tie as tie
@@ -45,7 +45,7 @@ begin c =
     let a = start.args in
     let k = covering.cover.ensures in
     let size : length covering.cover.result.bytes ≡ 16 = ap length k.0 ∙ add_size _ _ in
-    let w = written-first (steps_sized _ _ _ _ _ _ _) size block a.states.now (room a.n) start.requires.5 refl k.3 in
+    let w = written_first (steps_sized _ _ _ _ _ _ _) size block a.states.now (room a.n) start.requires.5 refl k.3 in
     (first_label _ a.masks.1 _ _ (rw k.1 start.requires.6) refl k.2, k.2, (search rules, size, w.held.size, w))
 
 -- a turn, of which the last is apart
@@ -124,7 +124,7 @@ returns c =
     (finished.uncover.ensures ∙ ap (λ (j : ℕ). l.s.bytes ⊞ shift_rows (mask a.masks.0 p j)) label ∙ uncovering-last n pos a.w.now a.boxes.now a.compensations.now p o d e l.s.bytes) in
     written-whole (steps_sized a.w.now a.boxes.now a.compensations.now p o d e) h.1 block (after n) (5 * n) (points n) (after_all n pos) (rounds-bytes n pos) (5 * n - 1 + 1) (omega (arith, all.1)) (omega (arith, all.1)) whole
     ∙ ap bytes
-    (lent-record m w p o d n b pos covering.cover.result.bytes a.boxes.now a.compensations.now e
+    (lent_record m w p o d n b pos covering.cover.result.bytes a.boxes.now a.compensations.now e
     (k.0 ∙ ap (λ (j : ℕ). a.block.0 ⊞ mask a.masks.0 p j) (sym k.1)) start.requires.3 start.requires.4 refl)
     ∙ ap (λ (j : ℕ). bytes (masked_record n a.masks.0 (advanced p j) d a.w.now a.block.0)) k.1
 

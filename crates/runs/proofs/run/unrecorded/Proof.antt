@@ -17,7 +17,7 @@ use Rattle.masks.specs.Order.{boxed_by, boxes_at}
 use Rattle.runs.specs.Run.{masked_cipher}
 use Rattle.runs.specs.Lent.{steps}
 use Rattle.runs.proofs.Labels.{first_label, label_on, label-below}
-use Rattle.runs.proofs.LentSteps.{reached_more, last_any, lent-record}
+use Rattle.runs.proofs.LentSteps.{reached_more, last_any, lent_record}
 use Rattle.runs.proofs.Owned.{field_bytes}
 use Rattle.runs.proofs.run.unrecorded.Statement.{statement}
 use Rattle.runs.proofs.run.unrecorded.Tie as tie
@@ -202,7 +202,7 @@ returns c =
     (round-closed a.w.now a.boxes.now a.compensations.now q o d e (n - 1) l.t.bytes half.half.result.bytes key.add-key.result.bytes _ (shift_rows (mask M q key.add-key.result.label.0)) l.t.round.0 half.half.result.round.0 l.t.label.0 last-round.0 last-round.1 (rw last-round.0 at l.invariant.0) (ap (λ (j : ℕ). shift_rows (mask M q j)) label) h.0 key.add-key.ensures.0 closing.uncover.ensures)
     ∙ last_any g s a.block.0 s block (wholes (n - 1) ++ final (n - 1))
     ∙ ap (last a.block.0)
-    (lent-record m w q o d n b start.requires.0 s a.boxes.now a.compensations.now e (k.0 ∙ ap (λ (j : ℕ). a.block.0 ⊞ mask M q j) (sym k.1)) start.requires.3 start.requires.4 refl)
+    (lent_record m w q o d n b start.requires.0 s a.boxes.now a.compensations.now e (k.0 ∙ ap (λ (j : ℕ). a.block.0 ⊞ mask M q j) (sym k.1)) start.requires.3 start.requires.4 refl)
     ∙ ap (λ (j : ℕ). masked_cipher n M (advanced q j) d a.w.now a.block.0) k.1
 
 pub unrecorded-spec : {M : Type 1} → statement M

@@ -15,7 +15,7 @@ use Rattle.masks.specs.Mask.{published, one, advanced, in_row}
 use Rattle.lent.proofs.Begun.{one_from}
 use Rattle.runs.specs.Run.{masked_cipher}
 use Rattle.starts.specs.Each.{in_turn}
-use Rattle.masks.proofs.Row.{one_more, ended, row-size, row-lent}
+use Rattle.masks.proofs.Row.{one_more, ended, row_size, row_lent}
 use Rattle.starts.proofs.Sizes.{masked_size}
 use Rattle.starts.proofs.many.each.Statement.{statement}
 use Rattle.starts.proofs.many.each.Tie as tie
@@ -37,8 +37,8 @@ begin c =
 width : (k : ℕ) → 16 * k + 16 - 16 * k ≡ 16
 width k = omega arith
 
-block-lent : tie.Need-lent-requires invariant-loop decreases-loop
-block-lent c κs = c.lent-arg.given.2 ∙ width c.before.before.loop.k
+block_lent : tie.Need-lent-requires invariant-loop decreases-loop
+block_lent c κs = c.lent-arg.given.2 ∙ width c.before.before.loop.k
 
 lent : tie.Need-unrecorded-requires invariant-loop decreases-loop
 lent c κs =
@@ -79,7 +79,7 @@ again c =
     let first = make.make.ensures ∙ ap (λ (o : ℕ). o % 16) place.offset.ensures in
     let v-is = (λ i. advanced (start.requires.4 i) (first i)) ∙ one_from (at os l.k) in (
       one_more turn.loop-test.true,
-      row-lent (in_turn w b os d) 16 (λ j. masked_size (rounds_of w) published (one (at os j)) d w _) l.k (16 * length os) l.output _ (room turn.loop-test.true) l.invariant.1
+      row_lent (in_turn w b os d) 16 (λ j. masked_size (rounds_of w) published (one (at os j)) d w _) l.k (16 * length os) l.output _ (room turn.loop-test.true) l.invariant.1
           (run.unrecorded.ensures ∙ λ i. masked_cipher (n.same i) (start.requires.3 i) (v-is i) d w (same i)),
     )
 
@@ -92,10 +92,10 @@ returns c =
     let n : ℕ = length os in
     let f : ℕ → List ℕ = in_turn w a.input.now os a.masks.1 in
     let all : l.k ≡ n = ended l.invariant.0 c.loop-test.false in
-    holds_all (16 * n) (in_row f n) l.output (rw all at l.invariant.1) (row-size f 16 (λ j. masked_size (rounds_of w) published (one (at os j)) a.masks.1 w _) n)
+    holds_all (16 * n) (in_row f n) l.output (rw all at l.invariant.1) (row_size f 16 (λ j. masked_size (rounds_of w) published (one (at os j)) a.masks.1 w _) n)
 
 pub each_spec : {M : Type 1} → statement M
 each_spec =
     tie.close
-    (tie.spec invariant-loop decreases-loop (λ c κs. search rules) begin (λ c. search rules) (λ c. search rules) (λ c. search rules) (λ c. search rules) (λ c. search rules) block-lent
+    (tie.spec invariant-loop decreases-loop (λ c κs. search rules) begin (λ c. search rules) (λ c. search rules) (λ c. search rules) (λ c. search rules) (λ c. search rules) block_lent
     (λ c κs. search rules) (λ c κs. search rules) (λ c. search rules) (λ c. search rules) (λ c. search rules) lent more (λ c. search rules) again (λ c. search rules) returns)

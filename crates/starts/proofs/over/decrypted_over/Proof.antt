@@ -7,7 +7,7 @@ use borrow.Author.Rules.{rules}
 use Rattle.runs.specs.Back.{masked_inv_cipher}
 use Rattle.aes.proofs.Schedule.{known}
 use Rattle.lent.specs.Started.{record_of}
-use Rattle.lent.proofs.Begun.{sound, as-told}
+use Rattle.lent.proofs.Begun.{sound, as_told}
 use Rattle.starts.proofs.over.decrypted_over.Statement.{statement}
 use Rattle.starts.proofs.over.decrypted_over.Tie as tie
 
@@ -44,7 +44,7 @@ returns c =
     let start = block.before.before.before.before.before.before.before.before.before.before.before.before in
     let a = start.args in
     let n = known a.schedule.now counted.rounds-for.result counted.rounds-for.ensures.0 start.requires.0 in
-    run.opened.ensures ∙ as-told a.masks a.start start.requires.4 (λ (v b : List ℕ). masked_inv_cipher counted.rounds-for.result a.masks.0 v a.masks.1 a.schedule.now b) first.first.ensures block.lent.ensures
+    run.opened.ensures ∙ as_told a.masks a.start start.requires.4 (λ (v b : List ℕ). masked_inv_cipher counted.rounds-for.result a.masks.0 v a.masks.1 a.schedule.now b) first.first.ensures block.lent.ensures
     ∙ ap (λ (k : ℕ). masked_inv_cipher k a.masks.0 (record_of a.start) a.masks.1 a.schedule.now a.input.now) n.same
 
 pub decrypted-over-spec : {M : Type 1} → statement M

@@ -8,7 +8,7 @@ use Rattle.aes.specs.Record.{bytes}
 use Rattle.runs.specs.Run.{masked_record}
 use Rattle.aes.proofs.Schedule.{known}
 use Rattle.lent.specs.Started.{record_of}
-use Rattle.lent.proofs.Begun.{sound, as-told}
+use Rattle.lent.proofs.Begun.{sound, as_told}
 use Rattle.starts.proofs.over.recorded_over.Statement.{statement}
 use Rattle.starts.proofs.over.recorded_over.Tie as tie
 
@@ -45,7 +45,7 @@ returns c =
     let start = block.before.before.before.before.before.before.before.before.before.before.before in
     let a = start.args in
     let n = known a.schedule.now counted.rounds-for.result counted.rounds-for.ensures.0 start.requires.0 in
-    run.recorded.ensures ∙ as-told a.masks a.start start.requires.4 (λ (v b : List ℕ). bytes (masked_record counted.rounds-for.result a.masks.0 v a.masks.1 a.schedule.now b)) first.first.ensures block.lent.ensures
+    run.recorded.ensures ∙ as_told a.masks a.start start.requires.4 (λ (v b : List ℕ). bytes (masked_record counted.rounds-for.result a.masks.0 v a.masks.1 a.schedule.now b)) first.first.ensures block.lent.ensures
     ∙ ap (λ (k : ℕ). bytes (masked_record k a.masks.0 (record_of a.start) a.masks.1 a.schedule.now a.input.now)) n.same
 
 pub recorded-over-spec : {M : Type 1} → statement M

@@ -3,13 +3,13 @@
 use mathlib.Core.Path.{sym}
 use Rattle.aes.specs.Byte.{table}
 use Rattle.masks.specs.Mask.{published, in_row}
-use Rattle.stores.proofs.Store.{looked_up, inv_boxes, published-inverse_boxes}
+use Rattle.stores.proofs.Store.{looked_up, inv_boxes, published_inverse_boxes}
 use Rattle.stores.proofs.inverse.inverse_boxes.Statement.{statement}
 use Rattle.stores.proofs.inverse.inverse_boxes.Tie as tie
 
 store-test : tie.Need-returns
 unfolding inv_boxes table published in_row looked_up
-store-test c = sym published-inverse_boxes
+store-test c = sym published_inverse_boxes
 
 pub inverse-boxes-spec : {M : Type 1} → statement M
 inverse-boxes-spec = tie.close (tie.spec store-test)

@@ -8,7 +8,7 @@ use borrow.Author.Rules.{rules}
 use lib.ListN.{length}
 use Rattle.buffer.specs.Wrap.{place, unwrap_steps}
 use Rattle.wrap.specs.Engines.{opened}
-use Rattle.buffer.proofs.Pieces.{unstep-long}
+use Rattle.buffer.proofs.Pieces.{unstep_long}
 use Rattle.wrap.proofs.Sizes.{opened_size}
 use Rattle.buffer.proofs.Turns.{Turn, turn, one_less}
 use Rattle.wrap.proofs.steps.unwrap_steps.Statement.{statement}
@@ -63,7 +63,7 @@ again c =
     let h = before a.n l.k l.buffer start.requires.1 start.requires.2 test.loop-test.true l.invariant.0 l.invariant.1 in
     let s : k + 1 ≡ l.k = omega (arith, test.loop-test.true) in (
       omega (arith, l.invariant.0),
-      rw done.unwrap-step.ensures (unstep-long D (opened_size a.engine a.schedule.now) i (k + 1) l.buffer (omega arith) h.inside ∙ l.invariant.1),
+      rw done.unwrap-step.ensures (unstep_long D (opened_size a.engine a.schedule.now) i (k + 1) l.buffer (omega arith) h.inside ∙ l.invariant.1),
       ap (unwrap_steps D a.n k) done.unwrap-step.ensures ∙ one_less D a.n k l.buffer ∙ ap (λ (j : ℕ). unwrap_steps D a.n j l.buffer) s ∙ l.invariant.2,
     )
 

@@ -8,7 +8,7 @@ use borrow.Author.Rules.{rules}
 use lib.ListN.{length}
 use Rattle.buffer.specs.Wrap.{place, wrap_step, wrap_steps}
 use Rattle.wrap.specs.Engines.{sealed}
-use Rattle.buffer.proofs.Pieces.{step-long}
+use Rattle.buffer.proofs.Pieces.{step_long}
 use Rattle.wrap.proofs.Sizes.{sealed_size}
 use Rattle.buffer.proofs.Turns.{turn, one_more}
 use Rattle.wrap.proofs.steps.wrap_steps.Statement.{statement}
@@ -57,7 +57,7 @@ again c =
     let i : ℕ = place a.n l.k in
     let h = turn a.n l.k l.buffer start.requires.1 start.requires.2 test.loop-test.true l.invariant.1 in (
       search rules,
-      rw done.wrap-step.ensures (step-long E (sealed_size a.engine a.schedule.now) i (l.k + 1) l.buffer (omega arith) h.inside ∙ l.invariant.1),
+      rw done.wrap-step.ensures (step_long E (sealed_size a.engine a.schedule.now) i (l.k + 1) l.buffer (omega arith) h.inside ∙ l.invariant.1),
       done.wrap-step.ensures ∙ ap (wrap_step E i (l.k + 1)) l.invariant.2 ∙ one_more E a.n l.k a.buffer.now,
     )
 

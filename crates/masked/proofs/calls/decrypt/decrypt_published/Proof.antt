@@ -9,7 +9,7 @@ use Rattle.aes.specs.Key.{rounds_of}
 use Rattle.aes.proofs.Replies.{telling, refused, passed}
 use Rattle.masks.specs.Mask.{published}
 use Rattle.runs.specs.Back.{masked_inv_cipher}
-use Rattle.lent.proofs.Begun.{begun-lent, record-lent}
+use Rattle.lent.proofs.Begun.{begun_lent, record_lent}
 use Rattle.masked.specs.Calls.{published_back_checks}
 use Rattle.masked.proofs.Checked.{published-refusal, sizes}
 use Rattle.masked.proofs.calls.decrypt.decrypt_published.Statement.{statement}
@@ -33,7 +33,7 @@ lent c κs =
     let passed_on = start.before in
     let a = passed_on.before.before.before.before.before.before.before.args in
     let s = sizes a.schedule.now a.input.now a.output.now a.input.now a.offsets.now a.step 0 passed_on.before.refusal.ensures passed_on.if1.false in
-    (s.schedule, s.input, s.output, begun-lent start.lent.result a.offsets.now start.lent.ensures)
+    (s.schedule, s.input, s.output, begun_lent start.lent.result a.offsets.now start.lent.ensures)
 
 returns-2 : tie.Need-returns-2
 unfolding telling
@@ -46,7 +46,7 @@ returns-2 c =
     let cs : List Check = published_back_checks a.schedule.now a.input.now a.output.now a.offsets.now a.step in
     let reply : told.refusal.result ≡ refusal cs = told.refusal.ensures ∙ published-refusal a.schedule.now a.input.now a.output.now a.offsets.now a.step 0 in
     let s = sizes a.schedule.now a.input.now a.output.now a.input.now a.offsets.now a.step 0 told.refusal.ensures passed_on.if1.false in
-    let v-is = record-lent start.lent.result a.offsets.now start.lent.ensures s.offsets in
+    let v-is = record_lent start.lent.result a.offsets.now start.lent.ensures s.offsets in
     (λ i. (0, (run.unsealed.ensures ∙ ap (λ (v : List ℕ). masked_inv_cipher (rounds_of a.schedule.now) published v a.step a.schedule.now a.input.now) v-is) i))
     ∙ passed a.output.now _ [] cs tt reply passed_on.if1.false
 

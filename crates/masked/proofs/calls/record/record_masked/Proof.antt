@@ -10,7 +10,7 @@ use Rattle.aes.specs.Key.{rounds_of}
 use Rattle.aes.proofs.Replies.{refused}
 use Rattle.runs.specs.Run.{masked_record}
 use Rattle.masked.specs.Calls.{record_checks}
-use Rattle.masked.proofs.Checked.{record_sizes, states-lent, states-answer}
+use Rattle.masked.proofs.Checked.{record_sizes, states_lent, states_answer}
 use Rattle.masked.proofs.calls.record.record_masked.Statement.{statement}
 use Rattle.masked.proofs.calls.record.record_masked.Tie as tie
 
@@ -34,7 +34,7 @@ lent c κs =
     let start = c.before in
     let passed_on = start.before in
     let a = passed_on.before.before.before.before.before.before.before.before.args in
-    let z = states-lent (16 * (5 * rounds_of a.schedule.now + 1)) a.schedule.now a.input.now a.masks.now a.offsets.now a.step a.states.now passed_on.before.record_refusal.ensures passed_on.if1.false start.lent.result start.lent.ensures in
+    let z = states_lent (16 * (5 * rounds_of a.schedule.now + 1)) a.schedule.now a.input.now a.masks.now a.offsets.now a.step a.states.now passed_on.before.record_refusal.ensures passed_on.if1.false start.lent.result start.lent.ensures in
     (z.0, z.1, z.2 ∙ sym (size_is (rounds_of a.schedule.now)), z.3, z.4)
 
 returns-2 : tie.Need-returns-2
@@ -44,7 +44,7 @@ returns-2 c =
     let passed_on = start.before in
     let told = passed_on.before in
     let a = told.before.before.before.before.before.before.before.args in
-    states-answer (16 * (5 * rounds_of a.schedule.now + 1)) a.schedule.now a.input.now a.masks.now a.offsets.now a.step a.states.now told.record_refusal.ensures passed_on.if1.false start.lent.result start.lent.ensures (λ (v : List ℕ). bytes (masked_record (rounds_of a.schedule.now) a.masks.now v a.step a.schedule.now a.input.now)) run.recorded.ensures
+    states_answer (16 * (5 * rounds_of a.schedule.now + 1)) a.schedule.now a.input.now a.masks.now a.offsets.now a.step a.states.now told.record_refusal.ensures passed_on.if1.false start.lent.result start.lent.ensures (λ (v : List ℕ). bytes (masked_record (rounds_of a.schedule.now) a.masks.now v a.step a.schedule.now a.input.now)) run.recorded.ensures
 
 pub record-masked-spec : {M : Type 1} → statement M
 record-masked-spec = tie.close (tie.spec (λ c κs. search rules) (λ c. search rules) returns offsets-lent lent (λ c. search rules) returns-2)

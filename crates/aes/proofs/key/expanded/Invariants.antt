@@ -1,0 +1,20 @@
+-- The array holds the key and as many words more as turns were made.
+-- Assumes nothing.
+use mathlib.Core.List.{List}
+use mathlib.Core.Path.{◌≡◌, ap, ◌∙◌}
+use Prim.Native.Nat.{ℕ, ◌+◌, ◌-◌, ◌*◌, ◌≤◌, ◌<◌}
+use native.Mathlib.Omega.{arith}
+use borrow.Author.Rules.{rules}
+use lib.ListN.{length}
+use Rattle.aes.specs.Key.{word_at, temp, expanded, words, key_expansion}
+use Rattle.aes.specs.Word.{word_of}
+use Rattle.aes.specs.Held.{Holds}
+use Rattle.aes.proofs.Words.{word_sum}
+use Rattle.aes.proofs.Schedule.{word_held, expanded-held, last_word}
+use Rattle.aes.proofs.key.expanded.Given as goal
+
+abbrev pub invariant-loop-i : goal.invariant-loop-i
+invariant-loop-i l = (4 ≤ l.nk) × (l.nk ≤ 8) × (l.nk ≤ l.i) × (l.i ≤ 4 * l.nk + 28) × (length l.key ≡ 4 * l.nk) × Holds 240 (expanded l.nk l.key (l.i - l.nk)) l.w × (word_of l.before ≡ word_at (expanded l.nk l.key (l.i - l.nk)) (l.i - 1))
+
+abbrev pub decreases-loop-i : goal.decreases-loop-i
+decreases-loop-i l = 4 * l.nk + 28 - l.i
