@@ -7,7 +7,7 @@ use native.Mathlib.Omega.{arith}
 use lib.Bits.{xor_shr, xor_mod, xor_block, xor_lt}
 use lib.Dec.{lit<}
 use Rattle.aes.specs.Byte.{◌⊕◌, bit}
-use Rattle.aes.specs.Field.{double_by, times}
+use Rattle.aes.specs.Field.{double_by, times_by}
 use Rattle.aes.proofs.Xor.{mod_two, sums, xor_self, xor_zero}
 
 -- A bit p passes through what keeps 0, and spreads over a sum on either side of it.
@@ -42,14 +42,14 @@ double_xor m k a b =
     (simp sums)
 
 module _ (double : ℕ → ℕ) (keeps : (a b : ℕ) → double (a ⊕ b) ≡ double a ⊕ double b) where
-  pub times_xor_left : (n a b c : ℕ) → times double n (a ⊕ b) c ≡ times double n a c ⊕ times double n b c
-  unfolding times
+  pub times_xor_left : (n a b c : ℕ) → times_by double n (a ⊕ b) c ≡ times_by double n a c ⊕ times_by double n b c
+  unfolding times_by
   times_xor_left zero a b c = refl
   times_xor_left (suc n) a b c =
       rw (bit_right a b (c % 2) (mod_two c), keeps a b, times_xor_left n (double a) (double b) (c / 2)) (simp sums)
 
-  pub times_xor_right : (n a b c : ℕ) → times double n a (b ⊕ c) ≡ times double n a b ⊕ times double n a c
-  unfolding times
+  pub times_xor_right : (n a b c : ℕ) → times_by double n a (b ⊕ c) ≡ times_by double n a b ⊕ times_by double n a c
+  unfolding times_by
   times_xor_right zero a b c = refl
   times_xor_right (suc n) a b c =
       rw (xor_mod b c 1, xor_shr b c 1, bit_left a (b % 2) (c % 2) (mod_two b) (mod_two c), times_xor_right n (double a) (b / 2) (c / 2))
@@ -58,42 +58,42 @@ module _ (double : ℕ → ℕ) (keeps : (a b : ℕ) → double (a ⊕ b) ≡ do
   double_zero : double 0 ≡ 0
   double_zero = keeps 0 0 ∙ xor_self (double 0)
 
-  pub times_zero : (n c : ℕ) → times double n 0 c ≡ 0
-  unfolding times
+  pub times_zero : (n c : ℕ) → times_by double n 0 c ≡ 0
+  unfolding times_by
   times_zero zero c = refl
   times_zero (suc n) c = rw (zero-mul (c % 2), double_zero, times_zero n (c / 2))
 
-  times_double : (n b c : ℕ) → times double n (double b) c ≡ double (times double n b c)
-  unfolding times
+  times_double : (n b c : ℕ) → times_by double n (double b) c ≡ double (times_by double n b c)
+  unfolding times_by
   times_double zero b c = sym double_zero
   times_double (suc n) b c =
       rw (
-        keeps (b * (c % 2)) (times double n (double b) (c / 2)),
+        keeps (b * (c % 2)) (times_by double n (double b) (c / 2)),
         bit_through double double_zero b (c % 2) (mod_two c),
         times_double n (double b) (c / 2),
       )
 
   -- Two factors change places behind a third, whatever numbers they are; behind 1 that is commutativity.
-  pub times_swap : (n m a b c : ℕ) → times double n (times double m a b) c ≡ times double m (times double n a c) b
-  unfolding times
+  pub times_swap : (n m a b c : ℕ) → times_by double n (times_by double m a b) c ≡ times_by double m (times_by double n a c) b
+  unfolding times_by
   times_swap n zero a b c = times_zero n c
   times_swap n (suc m) a b c =
       rw (
-        times_xor_left n (a * (b % 2)) (times double m (double a) (b / 2)) c,
-        bit_through (λ x. times double n x c) (times_zero n c) a (b % 2) (mod_two b),
+        times_xor_left n (a * (b % 2)) (times_by double m (double a) (b / 2)) c,
+        bit_through (λ x. times_by double n x c) (times_zero n c) a (b % 2) (mod_two b),
         times_swap n m (double a) (b / 2) c,
         times_double n a c,
       )
 
   -- where doubling stays within n bits, so does a product; and where 1 is one there, factors change places
   module _ (n : ℕ) (stays : (b : ℕ) → b < 2 ^ n → double b < 2 ^ n) where
-    pub times_below : (k b c : ℕ) → b < 2 ^ n → times double k b c < 2 ^ n
-    unfolding times
+    pub times_below : (k b c : ℕ) → b < 2 ^ n → times_by double k b c < 2 ^ n
+    unfolding times_by
     times_below zero b c h = omega (arith, h)
     times_below (suc k) b c h =
-        xor_lt n (b * (c % 2)) (times double k (double b) (c / 2)) (bit_below (2 ^ n) b (c % 2) h (mod_two c))
+        xor_lt n (b * (c % 2)) (times_by double k (double b) (c / 2)) (bit_below (2 ^ n) b (c % 2) h (mod_two c))
         (times_below k (double b) (c / 2) (stays b h))
 
-    pub times_comm : ((b : ℕ) → b < 2 ^ n → times double n 1 b ≡ b) → (a b : ℕ) → a < 2 ^ n → b < 2 ^ n → times double n a b ≡ times double n b a
+    pub times_comm : ((b : ℕ) → b < 2 ^ n → times_by double n 1 b ≡ b) → (a b : ℕ) → a < 2 ^ n → b < 2 ^ n → times_by double n a b ≡ times_by double n b a
     times_comm one a b ha hb =
-        ap (λ (x : ℕ). times double n x b) (sym (one a ha)) ∙ times_swap n n 1 a b ∙ ap (λ (x : ℕ). times double n x a) (one b hb)
+        ap (λ (x : ℕ). times_by double n x b) (sym (one a ha)) ∙ times_swap n n 1 a b ∙ ap (λ (x : ℕ). times_by double n x a) (one b hb)

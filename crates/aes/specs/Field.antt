@@ -3,27 +3,23 @@
 use Rattle.std.specs.Prelude.{List, ℕ, zero, suc, ◌+◌, ◌*◌, ◌/◌, ◌%◌}
 use Rattle.aes.specs.Byte.{◌⊕◌, bit, table, place}
 
--- b times x, where polynomials have the bits 0 to k: the modulus m, whose bit k + 1 is set, is taken away where that has left them
-abbrev pub double_by : ℕ → ℕ → ℕ → ℕ
-double_by m k b = (m * bit b k) ⊕ (b * 2)
-
--- the sum of b, its double, the double of that, .. over those of the n low bits of c that are set
-unfoldable pub times : (ℕ → ℕ) → ℕ → ℕ → ℕ → ℕ
-times double zero b c = 0
-times double (suc n) b c = (b * (c % 2)) ⊕ times double n (double b) (c / 2)
-
 -- m(x) of 4.2
 abbrev pub modulus : ℕ
 modulus = 0x11b
 
--- XTIMES (4.2)
+-- XTIMES (4.2): b times x, and the modulus taken away where that has left the byte
 unfoldable pub x_times : ℕ → ℕ
-x_times b = double_by modulus 7 b
+x_times b = (modulus * bit b 7) ⊕ (b * 2)
+
+-- the sum of b, {02} • b, {04} • b, .. over those of the n low bits of c that are set
+unfoldable pub times : ℕ → ℕ → ℕ → ℕ
+times zero b c = 0
+times (suc n) b c = (b * (c % 2)) ⊕ times n (x_times b) (c / 2)
 
 -- the product of two bytes (4.2)
 infixl 70 ◌•◌
 unfoldable pub ◌•◌ : ℕ → ℕ → ℕ
-b • c = times x_times 8 b c
+b • c = times 8 b c
 
 -- the product of n factors b
 unfoldable pub raise : ℕ → ℕ → ℕ
@@ -44,3 +40,12 @@ logarithm b = place b (table power 255)
 
 abbrev pub logarithms : List ℕ
 logarithms = table (λ k. logarithm (k + 1)) 255
+
+-- b times x, where polynomials have the bits 0 to k: the modulus m, whose bit k + 1 is set, is taken away where that has left them
+abbrev pub double_by : ℕ → ℕ → ℕ → ℕ
+double_by m k b = (m * bit b k) ⊕ (b * 2)
+
+-- the sum of b, its double, the double of that, .. over those of the n low bits of c that are set
+unfoldable pub times_by : (ℕ → ℕ) → ℕ → ℕ → ℕ → ℕ
+times_by double zero b c = 0
+times_by double (suc n) b c = (b * (c % 2)) ⊕ times_by double n (double b) (c / 2)

@@ -6,7 +6,7 @@ use native.Mathlib.Omega.{arith}
 use lib.Bits.{xor_lt}
 use lib.Dec.{lit<}
 use Rattle.aes.specs.Byte.{◌⊕◌, table}
-use Rattle.aes.specs.Field.{times}
+use Rattle.aes.specs.Field.{times_by}
 use Rattle.aes.proofs.Xor.{sums, xor_self}
 use Rattle.aes.proofs.Listed.{agree}
 use Rattle.aes.proofs.Products.{double_xor, times_xor_left, times_xor_right, times_zero, times_below, times_comm}
@@ -31,14 +31,14 @@ half_zero_left = times_zero double_half double_keeps 4
 pub half_zero_right : (x : ℕ) → x ⊗ 0 ≡ 0
 half_zero_right x = half_right x 0 0 ∙ xor_self (x ⊗ 0)
 
--- sixteen doubles, and 1 times each half
+-- sixteen doubles, and 1 times_by each half
 double_half_lem : (b : ℕ) → b < 16 → double_half b < 16
 unfolding double_half table
 double_half_lem b h = let e : double_half b / 16 ≡ 0 = agree (λ k. double_half k / 16) (λ k. 0) 16 refl b h in omega arith
 
-half_one : (b : ℕ) → b < 16 → times double_half 4 1 b ≡ b
-unfolding times double_half table
-half_one = agree (λ b. times double_half 4 1 b) (λ b. b) 16 refl
+half_one : (b : ℕ) → b < 16 → times_by double_half 4 1 b ≡ b
+unfolding times_by double_half table
+half_one = agree (λ b. times_by double_half 4 1 b) (λ b. b) 16 refl
 
 pub half_half : (a b : ℕ) → a < 16 → a ⊗ b < 16
 unfolding ◌⊗◌

@@ -6,7 +6,7 @@ use native.Mathlib.Numerals.{add-one}
 use native.Mathlib.Omega.{arith}
 use lib.Bits.{xor_shr, xor_mod}
 use Rattle.aes.specs.Byte.{◌⊕◌, table}
-use Rattle.aes.specs.Field.{times, x_times, ◌•◌, inverse}
+use Rattle.aes.specs.Field.{times_by, x_times, ◌•◌, inverse}
 use Rattle.aes.specs.Box.{affine, s_box}
 use Rattle.aes.proofs.Xor.{sums, xor_byte}
 use Rattle.aes.proofs.Listed.{agree}
@@ -17,20 +17,20 @@ use Rattle.tower.proofs.Halves.{half_half, half_xor, inverse_half_lem, norm_half
 use Rattle.tower.proofs.Linear.{Linear}
 use Rattle.tower.proofs.Isomorphism.{to_tower_sums, from_tower_sums, back_and_forth, tower_byte, joined_xor, linear_sums}
 
--- one test over the bytes: what comes back from the tower is a byte, and each but 00 times it is 01
+-- one test over the bytes: what comes back from the tower is a byte, and each but 00 times_by it is 01
 abbrev inverted : ℕ → ℕ
 inverted a = from_tower (tower_inverse (to_tower a))
 
 inverted_byte : (a : ℕ) → a < 256 → inverted a < 256
-unfolding from_tower to_tower tower_inverse norm constant inverse_half ◌⊗◌ times double_half table
+unfolding from_tower to_tower tower_inverse norm constant inverse_half ◌⊗◌ times_by double_half table
 inverted_byte a h = let e : inverted a / 256 ≡ 0 = agree (λ k. inverted k / 256) (λ k. 0) 256 refl a h in omega arith
 
 inverted_times : (k : ℕ) → k < 255 → (k + 1) • inverted (k + 1) ≡ 1
-unfolding from_tower to_tower tower_inverse norm constant inverse_half ◌⊗◌ times double_half ◌•◌ x_times table
+unfolding from_tower to_tower tower_inverse norm constant inverse_half ◌⊗◌ times_by double_half ◌•◌ x_times table
 inverted_times = agree (λ k. (k + 1) • inverted (k + 1)) (λ k. 1) 255 refl
 
 inverted_zero : inverted 0 ≡ 0
-unfolding from_tower to_tower tower_inverse norm constant inverse_half ◌⊗◌ times double_half
+unfolding from_tower to_tower tower_inverse norm constant inverse_half ◌⊗◌ times_by double_half
 inverted_zero = refl
 
 pub tower_inverse_lem : (a : ℕ) → a < 256 → from_tower (tower_inverse (to_tower a)) ≡ inverse a

@@ -2,7 +2,7 @@
 -- Assumes nothing.
 use Rattle.std.specs.Prelude.{List, ℕ, ◌+◌, ◌*◌, ◌/◌, ◌%◌}
 use Rattle.aes.specs.Byte.{◌⊕◌, bit, table}
-use Rattle.aes.specs.Field.{double_by, times}
+use Rattle.aes.specs.Field.{double_by, times_by}
 use Rattle.aes.specs.Box.{affine}
 use Rattle.aes.specs.State.{at}
 use Rattle.masks.specs.Mask.{published}
@@ -17,7 +17,7 @@ double_half b = double_by half_modulus 3 b
 -- the product of two halves
 infixl 70 ◌⊗◌
 unfoldable pub ◌⊗◌ : ℕ → ℕ → ℕ
-b ⊗ c = times double_half 4 b c
+b ⊗ c = times_by double_half 4 b c
 
 -- the inverse of a half: its 14th power, which is 0 for 0
 unfoldable pub inverse_half : ℕ → ℕ

@@ -2,11 +2,11 @@
 -- Assumes nothing.
 use mathlib.Core.Path.{refl}
 use Rattle.aes.specs.Byte.{table}
-use Rattle.aes.specs.Field.{times}
+use Rattle.aes.specs.Field.{times_by}
 use Rattle.tower.specs.Tower.{double_half, ◌⊗◌, inverse_half}
 use Rattle.tower.proofs.tables.inverses.Statement.{statement}
 use Rattle.tower.proofs.tables.inverses.Tie as tie
 
 pub inverses-spec : {M : Type 1} → statement M
-unfolding table times double_half ◌⊗◌ inverse_half
+unfolding table times_by double_half ◌⊗◌ inverse_half
 inverses-spec = tie.close (tie.spec (λ c. refl))

@@ -2,11 +2,11 @@
 -- Assumes nothing.
 use mathlib.Core.Path.{refl}
 use Rattle.aes.specs.Byte.{table}
-use Rattle.aes.specs.Field.{times}
+use Rattle.aes.specs.Field.{times_by}
 use Rattle.tower.specs.Tower.{double_half, ◌⊗◌}
 use Rattle.tower.proofs.tables.products.Statement.{statement}
 use Rattle.tower.proofs.tables.products.Tie as tie
 
 pub products-spec : {M : Type 1} → statement M
-unfolding table times double_half ◌⊗◌
+unfolding table times_by double_half ◌⊗◌
 products-spec = tie.close (tie.spec (λ c. refl))
