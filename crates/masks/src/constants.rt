@@ -15,7 +15,7 @@ const MASKS: [u8; 16] = *b"\
 
 // Which constants of sixteen labels: an encryption's compensations, or a decryption's corrections after InvShiftRows and after
 // InvMixColumns.
-#[derive(Drop)]
+#[derive(Clone, Copy)]
 pub enum Kind {
     Compensation,
     AfterRows,

@@ -6,10 +6,10 @@ ghost use Rattle.aes.specs.State.{at};
 ghost use Rattle.masks.specs.Mask.{one, twice, covers_of};
 ghost use Rattle.masks.specs.Order.{places_of, places_at};
 
-#[derive(Drop)]
+#[derive(Clone, Copy)]
 pub(crate) struct Position(usize);
 
-#[derive(Drop)]
+#[derive(Clone, Copy)]
 pub struct Label(usize);
 
 // The offsets of a record.

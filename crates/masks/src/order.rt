@@ -16,7 +16,7 @@ pub(crate) fn positions() -> [u8; 16]
 }
 
 // How many boxes of a round have been called. Only a call counts on, so that no box comes before its turn.
-#[derive(Drop)]
+#[derive(Clone, Copy)]
 pub(crate) struct Turn(usize);
 
 impl Turn {

@@ -1,0 +1,27 @@
+-- Each turn fills one row more.
+-- Assumes nothing.
+use mathlib.Core.List.{List}
+use mathlib.Core.Path.{◌≡◌, ap, ◌∙◌}
+use Prim.Native.Nat.{ℕ, ◌+◌, ◌-◌, ◌*◌, ◌/◌, ◌%◌, ◌≤◌, ◌<◌}
+use native.Mathlib.Omega.{arith}
+use borrow.Author.Rules.{rules}
+use lib.ListN.{length}
+use Rattle.aes.specs.Byte.{◌⊕◌, table}
+use Rattle.aes.specs.State.{at}
+use Rattle.aes.specs.Held.{Holds}
+use Rattle.aes.proofs.Part.{holds_none, holds_all}
+use Rattle.aes.proofs.Listed.{table_at, table-length}
+use Rattle.masks.specs.Parts.{turned_table}
+use Rattle.masks.proofs.Row.{one_more, ended}
+use Rattle.masks.proofs.Turned.{row_of, row_high, row_below}
+use Rattle.masks.proofs.boxes.fill.Given as goal
+
+abbrev pub covered : (ℕ → ℕ) → ℕ → ℕ → ℕ → ℕ
+covered f m to x = f (x ⊕ m) ⊕ to
+
+abbrev pub invariant-loop-b : goal.invariant-loop-b
+invariant-loop-b l =
+    (l.b ≤ 16) × (length l.part ≡ 256) × ((f : ℕ → ℕ) → l.tables ≡ table (turned_table f) 4096 → Holds 256 (table (covered f l.from l.to) (16 * l.b)) l.part)
+
+abbrev pub decreases-loop-b : goal.decreases-loop-b
+decreases-loop-b l = 16 - l.b

@@ -1,0 +1,27 @@
+-- After n turns the boxes of n labels stand in the array.
+-- Assumes nothing.
+use mathlib.Core.List.{List}
+use mathlib.Core.Path.{◌≡◌, refl, ◌∙◌}
+use Prim.Native.Nat.{ℕ, ◌+◌, ◌-◌, ◌*◌, ◌%◌, ◌≤◌, ◌<◌}
+use native.Mathlib.Omega.{arith}
+use borrow.Author.Rules.{rules}
+use lib.Dec.{lit≤}
+use lib.ListN.{length}
+use Rattle.aes.specs.Byte.{◌⊕◌, table}
+use Rattle.aes.specs.State.{at}
+use Rattle.aes.specs.Held.{Holds}
+use Rattle.aes.proofs.Listed.{table-length}
+use Rattle.aes.proofs.Part.{holds_none, holds_all}
+use Rattle.masks.specs.Mask.{in_row, masked_box, masked_boxes}
+use Rattle.masks.proofs.Row.{one_more, ended, row_size, row_lent}
+use Rattle.masks.proofs.boxes.filled.Given as goal
+
+abbrev pub box : (ℕ → ℕ) → List ℕ → ℕ → ℕ → List ℕ
+box S M d j = table (masked_box S M d j) 256
+
+abbrev pub invariant-loop-n : goal.invariant-loop-n
+invariant-loop-n l =
+    (l.n ≤ 16) × (l.l.0 ≡ l.n % 16) × (length l.boxes ≡ 4096) × ((S : ℕ → ℕ) → l.lent ≡ table S 256 → Holds 4096 (in_row (box S l.masks l.step) l.n) l.boxes)
+
+abbrev pub decreases-loop-n : goal.decreases-loop-n
+decreases-loop-n l = 16 - l.n

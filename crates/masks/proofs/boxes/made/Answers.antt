@@ -1,0 +1,8 @@
+-- Of the table of S.
+-- Assumes nothing.
+use borrow.Author.Rules.{rules}
+use Rattle.masks.proofs.boxes.made.Goals as goal
+
+pub returns : goal.returns
+returns c =
+    c.filled.ensures _ c.sbox.ensures

@@ -1,0 +1,30 @@
+-- The lent table, the one with neighbours exchanged, and then twice as many three times.
+-- Assumes nothing.
+use mathlib.Core.List.{List}
+use mathlib.Core.Path.{◌≡◌, ap, ◌∙◌}
+use Prim.Native.Nat.{ℕ, ◌-◌, ◌≤◌, ◌<◌}
+use native.Mathlib.Omega.{arith}
+use borrow.Author.Rules.{rules}
+use lib.Dec.{lit≤, lit<}
+use lib.ListN.{length}
+use Rattle.aes.specs.Byte.{◌⊕◌, table}
+use Rattle.aes.specs.State.{at}
+use Rattle.aes.proofs.Listed.{table-length}
+use Rattle.aes.proofs.Part.{holds_all}
+use Rattle.aes.proofs.Fill.{Filled, filled_none, filled_more}
+use Rattle.masks.specs.Parts.{turned_table}
+use Rattle.masks.proofs.Row.{one_more, ended}
+use Rattle.masks.proofs.Turned.{first_table, neighbour, second_table, turned_same, filled_holds, by_two, by_four, by_eight}
+use Rattle.masks.proofs.boxes.turned.Given as goal
+
+abbrev pub invariant-loop-x : goal.invariant-loop-x
+invariant-loop-x l = (l.x ≤ 256) × Filled (turned_table (at l.t)) 4096 l.x l.r
+
+abbrev pub decreases-loop-x : goal.decreases-loop-x
+decreases-loop-x l = 256 - l.x
+
+abbrev pub invariant-loop-x-2 : goal.invariant-loop-x-2
+invariant-loop-x-2 l = (256 ≤ l.x) × (l.x ≤ 512) × Filled (turned_table (at l.t)) 4096 l.x l.r
+
+abbrev pub decreases-loop-x-2 : goal.decreases-loop-x-2
+decreases-loop-x-2 l = 512 - l.x

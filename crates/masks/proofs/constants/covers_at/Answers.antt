@@ -1,0 +1,7 @@
+-- Of the masks twice over.
+-- Assumes nothing.
+use borrow.Author.Rules.{rules}
+use Rattle.masks.proofs.constants.covers_at.Goals as goal
+
+pub returns : goal.returns
+returns c = c.covers.ensures _ c.twice.ensures

@@ -1,0 +1,27 @@
+-- Each turn of the inner loop fills one more place, and each of the outer one a row.
+-- Assumes nothing.
+use mathlib.Core.Path.{◌≡◌, sym, ◌∙◌}
+use Prim.Native.Nat.{ℕ, ◌+◌, ◌-◌, ◌*◌, ◌≤◌, ◌<◌}
+use native.Mathlib.Nat.{add-zero}
+use native.Mathlib.Omega.{arith}
+use borrow.Author.Rules.{rules}
+use lib.Dec.{lit≤}
+use Rattle.aes.specs.Byte.{table}
+use Rattle.aes.proofs.Fill.{Filled, filled_none, filled_more, filled_all}
+use Rattle.masks.specs.Order.{boxes_at}
+use Rattle.masks.proofs.Row.{one_more}
+use Rattle.masks.proofs.Columns.{row_byte}
+use Rattle.masks.proofs.Rows.{places_bytes, place_is}
+use Rattle.masks.proofs.label.Offsets.in_rows.Given as goal
+
+abbrev pub invariant-loop-i : goal.invariant-loop-i
+invariant-loop-i l = (l.i ≤ 16) × Filled (row_byte (boxes_at l.self.0)) 256 (16 * l.k + l.i) l.r
+
+abbrev pub decreases-loop-i : goal.decreases-loop-i
+decreases-loop-i l = 16 - l.i
+
+abbrev pub invariant-loop-k : goal.invariant-loop-k
+invariant-loop-k l = (l.k ≤ 16) × Filled (row_byte (boxes_at l.self.0)) 256 (16 * l.k) l.r
+
+abbrev pub decreases-loop-k : goal.decreases-loop-k
+decreases-loop-k l = 16 - l.k

@@ -1,0 +1,21 @@
+-- Two bytes make no number that wraps.
+-- Assumes nothing.
+use borrow.Author.Rules.{rules}
+use native.Mathlib.Omega.{arith}
+use Rattle.masks.proofs.sheet.version.Goals as goal
+
+pub overflow_cast-result : goal.overflow_cast-result
+overflow_cast-result c =
+    omega (arith, c.shared_slice_known-1.given 3)
+
+pub overflow_mul-result : goal.overflow_mul-result
+overflow_mul-result c =
+    omega (arith, c.shared_slice_known-1.given 3)
+
+pub overflow_cast-result-2 : goal.overflow_cast-result-2
+overflow_cast-result-2 c =
+    omega (arith, c.shared_slice_known-2-1.given 4)
+
+pub overflow_add-result : goal.overflow_add-result
+overflow_add-result c =
+    omega (arith, c.shared_slice_known-2-1.given 3, c.shared_slice_known-2-1.given 4)
