@@ -17,17 +17,17 @@ use masks::label::{Label, Offsets};
 use masks::{boxes, constants};
 
 // A block, bare.
-#[derive(Drop)]
+#[derive(Clone, Copy)]
 pub struct Block([u8; 16]);
 
 // Where the labels of a run begin: at offsets, so many labels on. Of the record of one offset o these are the offsets of 0, and they
 // are o on; the first field tells that. Of any other record they are its own, and not on.
-#[derive(Drop)]
+#[derive(Clone, Copy)]
 pub struct Start(bool, Offsets, Label);
 
 // Sixteen masks, the step by which their labels advance, the offsets of a start, and whether these are the offsets of 0. What is made of
 // them is lent beside them.
-#[derive(Drop)]
+#[derive(Clone, Copy)]
 pub struct Masks([u8; 16], u8, Offsets, bool);
 
 impl Block {

@@ -13,7 +13,7 @@ pub(crate) struct Position(usize);
 pub struct Label(usize);
 
 // The offsets of a record.
-#[derive(Drop)]
+#[derive(Clone, Copy)]
 pub struct Offsets([u8; 16]);
 
 impl Position {

@@ -1,0 +1,10 @@
+-- Sixteen bytes are all of sixteen.
+-- Assumes nothing.
+use mathlib.Core.Path.{◌∙◌}
+use borrow.Author.Rules.{rules}
+use Rattle.lent.proofs.Whole.{all_sixteen}
+use Rattle.lent.proofs.given.Block.lent.Goals as goal
+
+pub returns : goal.returns
+returns c =
+    c.sixteen.ensures ∙ all_sixteen c.args.input.now c.requires
