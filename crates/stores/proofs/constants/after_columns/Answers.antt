@@ -4,12 +4,8 @@ use mathlib.Core.Path.{refl}
 use Rattle.aes.specs.Field.{x_times, times, ◌•◌}
 use Rattle.aes.specs.State.{dot, inv_mix_columns, add_round_key}
 use Rattle.masks.specs.Mask.{published, mask, in_row, after_columns, constants}
-use Rattle.stores.proofs.constants.after_columns.Statement.{statement}
-use Rattle.stores.proofs.constants.after_columns.Tie as tie
+use Rattle.stores.proofs.constants.after_columns.Goals as goal
 
-constants-test : tie.Need-returns
+pub returns : goal.returns
 unfolding x_times times ◌•◌ dot inv_mix_columns add_round_key published mask in_row after_columns constants
-constants-test c = refl
-
-pub after-columns-spec : {M : Type 1} → statement M
-after-columns-spec = tie.close (tie.spec constants-test)
+returns c = refl

@@ -4,12 +4,8 @@ use mathlib.Core.Path.{refl}
 use Rattle.aes.specs.Field.{x_times, times, ◌•◌}
 use Rattle.aes.specs.State.{shift_rows, dot, mix_columns, add_round_key}
 use Rattle.masks.specs.Mask.{published, mask, in_row, compensation, constants}
-use Rattle.stores.proofs.constants.compensations.Statement.{statement}
-use Rattle.stores.proofs.constants.compensations.Tie as tie
+use Rattle.stores.proofs.constants.compensations.Goals as goal
 
-compensations-test : tie.Need-returns
+pub returns : goal.returns
 unfolding x_times times ◌•◌ dot shift_rows mix_columns add_round_key published mask in_row compensation constants
-compensations-test c = refl
-
-pub compensations-spec : {M : Type 1} → statement M
-compensations-spec = tie.close (tie.spec compensations-test)
+returns c = refl
