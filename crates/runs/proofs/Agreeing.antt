@@ -1,7 +1,7 @@
 -- Two runs through the same points record the same where their steps agree: on states of sixteen bytes, at the points that are due.
 -- Assumes nothing.
 use mathlib.Core.Path.{◌≡◌, refl, ap}
-use mathlib.Core.Bool.{Bool, true, ◌&&◌}
+use mathlib.Core.Bool.{Bool, true, false, ◌&&◌}
 use mathlib.Core.List.{List, [], ◌∷◌, ◌++◌}
 use Prim.Native.Nat.{ℕ}
 use lib.Dec.{T}
@@ -15,6 +15,7 @@ all_due due (p ∷ ps) = due p && all_due due ps
 
 pub both : (a b : Bool) → T a → T b → T (a && b)
 both true b t u = u
+both false b t u = elim t [ ]
 
 pub due_append : {P : Type 0} (due : P → Bool) (ps qs : List P) → T (all_due due ps) → T (all_due due qs) → T (all_due due (ps ++ qs))
 unfolding all_due

@@ -64,6 +64,7 @@ module _ {M w : List ℕ} (hM : Bytes 16 M) {size : ℕ} (hw : Bytes size w) (p 
 
   lent_is : (q : Back) → T (due q) → (s : List ℕ) → Bytes 16 s → lent q s ≡ uncovering n M v d w q s
   unfolding due back_steps uncovering
+  lent_is block t s h = elim t [ ]
   lent_is (keyed r) t s h = refl
   lent_is (unshifted r) t s h = refl
   lent_is (corrected r) t s h =

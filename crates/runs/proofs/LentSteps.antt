@@ -145,6 +145,7 @@ module _ {M w : List ℕ} {size : ℕ} (hM : Bytes 16 M) (hw : Bytes size w) (p 
 
   lent_is : (q : Point) → T (due q) → (s : List ℕ) → Bytes 16 s → lent q s ≡ covered M v d w q s
   unfolding due steps covered
+  lent_is block t s h = elim t [ ]
   lent_is (keyed r) t s h = refl
   lent_is (boxed r) t s h = ap (λ (l : List ℕ). boxed_by (masked_boxes s_box M d) l s) (boxes_turn p o (d * r)) ∙ boxed_is s_box M v d (d * r) s h.byte
   lent_is (shifted r) t s h = refl

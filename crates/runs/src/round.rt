@@ -1,7 +1,7 @@
 // The third counter of a masked run, beside positions and labels: a type too, so that none of the three is given for another.
 ghost use Rattle.std.specs.Prelude.{◌≡◌, ◌+◌, ◌<◌};
 
-#[derive(Drop)]
+#[derive(Clone, Copy)]
 pub(crate) struct Round(usize);
 
 impl Round {

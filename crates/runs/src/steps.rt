@@ -20,7 +20,7 @@ use masks::label::Label;
 
 // A state as it is covered, with the label of its masks and its round, whose key comes next: boxes count it on, and in a decryption
 // back. This file alone reads and makes its bytes, advances its label and counts its rounds.
-#[derive(Drop)]
+#[derive(Clone, Copy)]
 pub(crate) struct Covered {
     label: Label,
     round: Round,

@@ -6,11 +6,11 @@ use Rattle.masks.proofs.sheet.version.Goals as goal
 
 pub overflow_cast-result : goal.overflow_cast-result
 overflow_cast-result c =
-    omega (arith, c.shared_slice_known-1.given 3)
+    omega (arith, c.type_inv.sheet 3)
 
 pub overflow_mul-result : goal.overflow_mul-result
 overflow_mul-result c =
-    omega (arith, c.shared_slice_known-1.given 3)
+    omega (arith, c.type_inv.sheet 3)
 
 pub overflow_cast-result-2 : goal.overflow_cast-result-2
 overflow_cast-result-2 c =

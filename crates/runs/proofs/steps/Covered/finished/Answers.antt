@@ -1,0 +1,7 @@
+-- The round, beside the last.
+-- Assumes nothing.
+use borrow.Author.Rules.{rules}
+use Rattle.runs.proofs.steps.Covered.finished.Goals as goal
+
+pub returns : goal.returns
+returns c = rw (c.read.ensures, c.read-2.ensures)

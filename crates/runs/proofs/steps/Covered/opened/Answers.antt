@@ -1,0 +1,7 @@
+-- The round, beside the first.
+-- Assumes nothing.
+use borrow.Author.Rules.{rules}
+use Rattle.runs.proofs.steps.Covered.opened.Goals as goal
+
+pub returns : goal.returns
+returns c = rw (c.read.ensures, c.read-2.ensures)
