@@ -14,8 +14,8 @@ overflow_mul-result c =
 
 pub overflow_cast-result-2 : goal.overflow_cast-result-2
 overflow_cast-result-2 c =
-    omega (arith, c.shared_slice_known-2-1.given 4)
+    omega (arith, c.type_inv.sheet 4)
 
 pub overflow_add-result : goal.overflow_add-result
 overflow_add-result c =
-    omega (arith, c.shared_slice_known-2-1.given 3, c.shared_slice_known-2-1.given 4)
+    omega (arith, c.type_inv.sheet 3, c.type_inv.sheet 4)
