@@ -2,5 +2,5 @@
 // a run that makes a block or masks does not compile.
 #![tactic(auto)]
 
-#[derive(Drop)]
+#[derive(Clone, Copy)]
 pub struct Caller {}
