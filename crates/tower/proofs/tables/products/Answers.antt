@@ -4,9 +4,9 @@ use mathlib.Core.Path.{refl}
 use Rattle.aes.specs.Byte.{table}
 use Rattle.aes.specs.Field.{times_by}
 use Rattle.tower.specs.Tower.{double_half, ◌⊗◌}
-use Rattle.tower.proofs.tables.sums.Statement.{statement}
-use Rattle.tower.proofs.tables.sums.Tie as tie
+use Rattle.tower.proofs.tables.products.Goals as goal
 
-pub sums-spec : {M : Type 1} → statement M
+pub returns : goal.returns
 unfolding table times_by double_half ◌⊗◌
-sums-spec = tie.close (tie.spec (λ c. refl))
+returns c =
+    refl
