@@ -5,7 +5,7 @@ use mathlib.Core.Bool.{Bool, true, false, not, ◌&&◌}
 use mathlib.Core.List.{List}
 use Prim.Native.Nat.{ℕ, ◌-◌, ◌≤◌, ◌<◌}
 use native.Mathlib.Omega.{arith}
-use borrow.Author.Tests.{eq-eqb, ne_eqb, le-leb, lt-leb, not-true, not-false}
+use borrow.Author.Tests.{eq-eqb, ne_eqb, le-leb, lt-leb}
 use lib.Dec.{T, eqb, leb, leb→le, nleb→lt, lit≤}
 use Rattle.aes.specs.Byte.{table, place}
 use Rattle.packet.specs.Packet.{pid, scrambling, field_right, start, long, parity, pid_at, pipe_of, is_listed, changed}
@@ -40,11 +40,11 @@ module _ (p out pipes : List ℕ) (odd : Bool) {k : ℕ} (ek : k ≡ pipe_of pip
         zero : eqb (scrambling p) 0 ≡ true
         zero = eq-eqb (scrambling p) 0 (sym en ∙ none)
 
-        pub too_short : not g ≡ true → ◌≡◌ {A = ℕ × List ℕ} (0, p) (answered_of false p out pipes odd)
-        too_short e = rw (listed, ef, zero, sym eg ∙ not-true g e)
+        pub too_short : g ≡ false → ◌≡◌ {A = ℕ × List ℕ} (0, p) (answered_of false p out pipes odd)
+        too_short e = rw (listed, ef, zero, sym eg ∙ e)
 
-        pub sent : not g ≡ false → {bits : ℕ} {o : List ℕ} → bits ≡ parity odd → o ≡ changed false bits odd pipes k p → ◌≡◌ {A = ℕ × List ℕ} (0, o) (answered_of false p out pipes odd)
-        sent e eb eo = rw (listed, ef, zero, sym eg ∙ not-false g e) (ap (λ (o : List ℕ). (0, o)) (eo ∙ (λ i. changed false (eb i) odd pipes (ek i) p)))
+        pub sent : g ≡ true → {bits : ℕ} {o : List ℕ} → bits ≡ parity odd → o ≡ changed false bits odd pipes k p → ◌≡◌ {A = ℕ × List ℕ} (0, o) (answered_of false p out pipes odd)
+        sent e eb eo = rw (listed, ef, zero, sym eg ∙ e) (ap (λ (o : List ℕ). (0, o)) (eo ∙ (λ i. changed false (eb i) odd pipes (ek i) p)))
 
       pub clear : n ≡ 0 → ◌≡◌ {A = ℕ × List ℕ} (0, p) (answered_of true p out pipes odd)
       clear none = rw (listed, ef, eq-eqb (scrambling p) 0 (sym en ∙ none))
@@ -56,11 +56,11 @@ module _ (p out pipes : List ℕ) (odd : Bool) {k : ℕ} (ek : k ≡ pipe_of pip
         opening : (leb 2 n && g) ≡ (leb 2 (scrambling p) && long p)
         opening i = leb 2 (en i) && eg i
 
-        pub shut : not (leb 2 n && g) ≡ true → ◌≡◌ {A = ℕ × List ℕ} (23, out) (answered_of true p out pipes odd)
-        shut e = rw (listed, ef, other, sym opening ∙ not-true (leb 2 n && g) e)
+        pub shut : (leb 2 n && g) ≡ false → ◌≡◌ {A = ℕ × List ℕ} (23, out) (answered_of true p out pipes odd)
+        shut e = rw (listed, ef, other, sym opening ∙ e)
 
-        pub opened : not (leb 2 n && g) ≡ false → {o : List ℕ} → o ≡ changed true 0 (eqb n 3) pipes k p → ◌≡◌ {A = ℕ × List ℕ} (0, o) (answered_of true p out pipes odd)
-        opened e eo = rw (listed, ef, other, sym opening ∙ not-false (leb 2 n && g) e) (ap (λ (o : List ℕ). (0, o)) (eo ∙ (λ i. changed true 0 (eqb (en i) 3) pipes (ek i) p)))
+        pub opened : (leb 2 n && g) ≡ true → {o : List ℕ} → o ≡ changed true 0 (eqb n 3) pipes k p → ◌≡◌ {A = ℕ × List ℕ} (0, o) (answered_of true p out pipes odd)
+        opened e eo = rw (listed, ef, other, sym opening ∙ e) (ap (λ (o : List ℕ). (0, o)) (eo ∙ (λ i. changed true 0 (eqb (en i) 3) pipes (ek i) p)))
 
 -- a payload is long where it starts at 172 or before
 pub near : (n : ℕ) → leb n 172 ≡ leb 16 (188 - n)
@@ -71,15 +71,15 @@ near n = by_case (leb n 172) refl
     by_case false e = e ∙ sym (lt-leb 16 (188 - n) (let h = nleb→lt n 172 (subst (λ (b : Bool). T (not b)) (sym e) tt) in omega (arith, h)))
 
 module _ (p : List ℕ) {g : Bool} (eg : g ≡ long p) where
-  pub long_near : not g ≡ false → start p ≤ 172
-  long_near e = let h = leb→le 16 (188 - start p) (subst T (sym (sym eg ∙ not-false g e)) tt) in omega (arith, h)
+  pub long_near : g ≡ true → start p ≤ 172
+  long_near e = let h = leb→le 16 (188 - start p) (subst T (sym (sym eg ∙ e)) tt) in omega (arith, h)
 
-  pub opened_near : (n : ℕ) → not (leb 2 n && g) ≡ false → start p ≤ 172
+  pub opened_near : (n : ℕ) → (leb 2 n && g) ≡ true → start p ≤ 172
   opened_near n e = long_near (both (leb 2 n) g e)
     where
-      both : (a b : Bool) → not (a && b) ≡ false → not b ≡ false
+      both : (a b : Bool) → (a && b) ≡ true → b ≡ true
       both true b e = e
-      both false b e = absurd (subst T e tt)
+      both false b e = absurd (subst T (sym e) tt)
 
 pub parity_small : (odd : Bool) → parity odd ≤ 3
 parity_small true = lit≤ tt

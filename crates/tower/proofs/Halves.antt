@@ -1,10 +1,9 @@
 -- The field of halves, and the formulas of document 000 that cover it.
 -- Assumes nothing.
 use mathlib.Core.Path.{◌≡◌, refl, ap, ◌∙◌}
-use Prim.Native.Nat.{ℕ, ◌/◌, ◌%◌, ◌<◌}
+use Prim.Native.Nat.{ℕ, ◌/◌, ◌<◌}
 use native.Mathlib.Omega.{arith}
 use lib.Bits.{xor_lt}
-use lib.Dec.{lit<}
 use Rattle.aes.specs.Byte.{◌⊕◌, table}
 use Rattle.aes.specs.Field.{times_by}
 use Rattle.aes.proofs.Xor.{sums, xor_self}
@@ -31,7 +30,7 @@ half_zero_left = times_zero double_half double_keeps 4
 pub half_zero_right : (x : ℕ) → x ⊗ 0 ≡ 0
 half_zero_right x = half_right x 0 0 ∙ xor_self (x ⊗ 0)
 
--- sixteen doubles, and 1 times_by each half
+-- sixteen doubles, and 1 times each half
 double_half_lem : (b : ℕ) → b < 16 → double_half b < 16
 unfolding double_half table
 double_half_lem b h = let e : double_half b / 16 ≡ 0 = agree (λ k. double_half k / 16) (λ k. 0) 16 refl b h in omega arith

@@ -1,12 +1,12 @@
 -- Inversion in the tower is that of FIPS 197's field, and covered it is masked inversion: for every byte and mask, 00 included.
 -- Assumes nothing.
 use mathlib.Core.Path.{◌≡◌, refl, sym, ap, ap₂, ◌∙◌}
-use Prim.Native.Nat.{ℕ, zero, suc, ◌+◌, ◌*◌, ◌/◌, ◌%◌, ◌<◌}
+use Prim.Native.Nat.{ℕ, zero, suc, ◌+◌, ◌/◌, ◌<◌}
 use native.Mathlib.Numerals.{add-one}
 use native.Mathlib.Omega.{arith}
 use lib.Bits.{xor_shr, xor_mod}
 use Rattle.aes.specs.Byte.{◌⊕◌, table}
-use Rattle.aes.specs.Field.{times_by, x_times, ◌•◌, inverse}
+use Rattle.aes.specs.Field.{times, times_by, x_times, ◌•◌, inverse}
 use Rattle.aes.specs.Box.{affine, s_box}
 use Rattle.aes.proofs.Xor.{sums, xor_byte}
 use Rattle.aes.proofs.Listed.{agree}
@@ -14,10 +14,9 @@ use Rattle.aes.proofs.Inverses.{inverse_only, inverse_zero, inverse_byte}
 use Rattle.beside.specs.Inversion.{masked_inverse}
 use Rattle.tower.specs.Tower.{double_half, constant, ◌⊗◌, inverse_half, high, low, joined, norm, inverse_pair, tower_inverse, to_tower, from_tower, tinv, covered_norm, covered_high, covered_low, covered_pair, covered_inverse, linear}
 use Rattle.tower.proofs.Halves.{half_half, half_xor, inverse_half_lem, norm_half, norm-covered, high-covered, low-covered}
-use Rattle.tower.proofs.Linear.{Linear}
 use Rattle.tower.proofs.Isomorphism.{to_tower_sums, from_tower_sums, back_and_forth, tower_byte, joined_xor, linear_sums}
 
--- one test over the bytes: what comes back from the tower is a byte, and each but 00 times_by it is 01
+-- one test over the bytes: what comes back from the tower is a byte, and each but 00 times it is 01
 abbrev inverted : ℕ → ℕ
 inverted a = from_tower (tower_inverse (to_tower a))
 
@@ -26,7 +25,7 @@ unfolding from_tower to_tower tower_inverse norm constant inverse_half ◌⊗◌
 inverted_byte a h = let e : inverted a / 256 ≡ 0 = agree (λ k. inverted k / 256) (λ k. 0) 256 refl a h in omega arith
 
 inverted_times : (k : ℕ) → k < 255 → (k + 1) • inverted (k + 1) ≡ 1
-unfolding from_tower to_tower tower_inverse norm constant inverse_half ◌⊗◌ times_by double_half ◌•◌ x_times table
+unfolding from_tower to_tower tower_inverse norm constant inverse_half ◌⊗◌ times_by double_half ◌•◌ times x_times table
 inverted_times = agree (λ k. (k + 1) • inverted (k + 1)) (λ k. 1) 255 refl
 
 inverted_zero : inverted 0 ≡ 0

@@ -6,7 +6,7 @@ use native.Mathlib.Nat.{mul_comm}
 use native.Mathlib.Omega.{arith}
 use lib.Bits.{xor_shr, xor_mod, xor_block}
 use Rattle.aes.specs.Byte.{◌⊕◌, from_bits, table}
-use Rattle.aes.specs.Field.{times_by, x_times, ◌•◌}
+use Rattle.aes.specs.Field.{times, times_by, x_times, ◌•◌}
 use Rattle.aes.specs.Box.{affine}
 use Rattle.aes.proofs.Xor.{sums}
 use Rattle.aes.proofs.Listed.{agree}
@@ -104,7 +104,7 @@ abbrev of_factors : ℕ → ℕ
 of_factors k = tower_times (to_tower (2 ^ (k / 8))) (to_tower (2 ^ (k % 8)))
 
 basis_test : table of_product 64 ≡ table of_factors 64
-unfolding to_tower tower_times constant ◌⊗◌ times_by double_half ◌•◌ x_times table
+unfolding to_tower tower_times constant ◌⊗◌ times_by double_half ◌•◌ times x_times table
 basis_test = refl
 
 basis : (i j : ℕ) → i < 8 → j < 8 → to_tower (2 ^ i • 2 ^ j) ≡ tower_times (to_tower (2 ^ i)) (to_tower (2 ^ j))

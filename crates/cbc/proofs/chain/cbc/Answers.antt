@@ -7,12 +7,11 @@ use Prim.Native.Nat.{ℕ, ◌+◌, ◌-◌, ◌*◌, ◌/◌, ◌≤◌, ◌<◌
 use native.Mathlib.Omega.{arith}
 use borrow.Author.Rules.{rules}
 use lib.ListN.{length}
-use Rattle.aes.specs.Held.{Holds}
 use Rattle.aes.proofs.Part.{holds_none, holds_all}
 use Rattle.masks.specs.Mask.{in_row}
 use Rattle.masks.proofs.Row.{one_more, ended, row_size, row_lent}
 use Rattle.cbc.specs.Cbc.{link}
-use Rattle.cbc.proofs.Links.{part_size, last, made, link_size, at_first, next_last, whole_row}
+use Rattle.cbc.proofs.Links.{part_size, made, link_size, at_first, next_last, whole_row}
 use Rattle.cbc.proofs.chain.cbc.Goals as goal
 
 pub loop-k-init : goal.loop-k-init

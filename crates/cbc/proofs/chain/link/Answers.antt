@@ -3,7 +3,6 @@
 use mathlib.Core.Path.{refl, ap, ◌∙◌}
 use mathlib.Core.List.{List}
 use Prim.Native.Nat.{ℕ}
-use borrow.Author.Rules.{rules}
 use lib.ListN.{length}
 use Rattle.aes.specs.Cipher.{cipher, inv_cipher}
 use Rattle.aes.specs.State.{state, Bytes, add_round_key}

@@ -1,0 +1,12 @@
+-- The stored table is the formula's, entry by entry.
+-- Assumes nothing.
+use mathlib.Core.Path.{refl}
+use Rattle.aes.specs.Byte.{table}
+use Rattle.aes.specs.Field.{times_by}
+use Rattle.tower.specs.Tower.{double_half, ◌⊗◌}
+use Rattle.tower.proofs.tables.sums.Goals as goal
+
+pub returns : goal.returns
+unfolding table times_by double_half ◌⊗◌
+returns c =
+    refl
