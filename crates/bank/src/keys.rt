@@ -11,13 +11,13 @@ use masked::encrypt_one;
 
 // What a place holds.
 #[repr(C)]
-#[derive(Drop)]
+#[derive(Clone, Copy)]
 pub struct Schedule {
     bytes: [u8; 240],
 }
 
 #[repr(C)]
-#[derive(Drop)]
+#[derive(Clone, Copy)]
 pub struct Bank {
     tags: [u8; 16],
     schedules: [Schedule; 16],
@@ -25,7 +25,7 @@ pub struct Bank {
 
 // What a load or a drop hands back.
 #[repr(C)]
-#[derive(Drop)]
+#[derive(Clone, Copy)]
 pub struct Handed {
     pub bank: Bank,
     pub reply: u8,

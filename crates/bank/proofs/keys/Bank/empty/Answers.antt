@@ -1,0 +1,8 @@
+-- Assumes nothing.
+use borrow.Author.Rules.{rules}
+use Rattle.bank.specs.Calls.{empty_bank}
+use Rattle.bank.proofs.keys.Bank.empty.Goals as goal
+
+pub returns : goal.returns
+unfolding empty_bank
+returns c = rw c.cleared-s.ensures
