@@ -3,7 +3,7 @@ ghost use Rattle.std.specs.Prelude.{◌≡◌, ◌≤◌, length};
 ghost use Rattle.wrap.specs.Engines.{offset_of, sealed, opened};
 
 // The masked one with the published masks and step 1, at the offset that it names.
-#[derive(Drop)]
+#[derive(Clone, Copy)]
 pub(crate) enum Engine {
     Plain,
     Masked(u8),
