@@ -86,7 +86,7 @@ module _ (p pipes : List ℕ) (hp : (i : ℕ) → at p i < 256) (hl : (i : ℕ) 
         other_first p q out out' pipes h (sent_size pipes p k odd lp hp ll hl (seven li) z near) room (before-start pipes p k odd lp hp ll hl (seven li) z near 0 (omega (arith, low p)) (λ x. absurd (omega (arith, x)))) in
         let s : sent_of ≡ q = rw (li, e) (sent_is pipes p k odd lp hp ll hl (seven li) z near) in
         ap (λ (x : List ℕ). descramble_of x out' pipes) s ∙ past_first true q out' pipes false first
-        ∙ sym (opened q out' pipes false refl lt fi' refl refl n0 (ap not (ap₂ ◌&&◌ (le-leb 2 (scrambling q) two) g')) refl) ∙ ap (λ (x : List ℕ). (0, x)) (ap (λ (j : ℕ). descrambled pipes j q) same ∙ ap (descrambled pipes k) (sym (sent_is pipes p k odd lp hp ll hl (seven li) z near)) ∙ restored pipes p k odd lp hp ll hl (seven li) z near)
+        ∙ sym (opened q out' pipes false refl lt fi' refl refl n0 (ap₂ ◌&&◌ (le-leb 2 (scrambling q) two) g') refl) ∙ ap (λ (x : List ℕ). (0, x)) (ap (λ (j : ℕ). descrambled pipes j q) same ∙ ap (descrambled pipes k) (sym (sent_is pipes p k odd lp hp ll hl (seven li) z near)) ∙ restored pipes p k odd lp hp ll hl (seven li) z near)
 
     by_list : (x : Bool) → is_listed pipes p ≡ x → descramble_of sent_of out' pipes ≡ (0, p)
     by_list false e = let s : sent_of ≡ p = rw e in ap (λ (x : List ℕ). descramble_of x out' pipes) s ∙ unlisted_descrambled p out' pipes again e

@@ -21,7 +21,7 @@ module _ (n : ℕ) (w : List ℕ) (h : Bytes n w) where
   inv_rounds-bytes : {s : List ℕ} (n : ℕ) → Bytes 16 s → Bytes 16 (inv_rounds w s n)
   unfolding inv_rounds
   inv_rounds-bytes zero b = b
-  inv_rounds-bytes (suc n) b = inv_rounds-bytes n (inv_mix_bytes _)
+  inv_rounds-bytes {s} (suc n) b = inv_rounds-bytes {s = inv_mix_columns (add_round_key (inv_sub_bytes (inv_shift_rows s)) (round_key w (suc n)))} n (inv_mix_bytes _)
 
   -- the inverse rounds begin and end between a round's SHIFTROWS and its MIXCOLUMNS
   inv_rounds-rounds : {s : List ℕ} (n : ℕ) → Bytes 16 s
@@ -66,7 +66,7 @@ module _ (n : ℕ) (w : List ℕ) (h : Bytes n w) where
   rounds-inv_rounds {s} (suc n) b =
       let k : Bytes 16 (add_round_key (inv_sub_bytes (inv_shift_rows s)) (round_key w (suc n))) = add_bytes (inv_sub_bytes_lem (inv_shift_bytes b)) (key (suc n)) in
       let m : Bytes 16 (inv_mix_columns (add_round_key (inv_sub_bytes (inv_shift_rows s)) (round_key w (suc n)))) = inv_mix_bytes _ in
-      rw (rounds-inv_rounds n m, sub_inv_sub (inv_shift_bytes m), shift_inv_shift m, mix_inv_mix k)
+      rw (rounds-inv_rounds {s = inv_mix_columns (add_round_key (inv_sub_bytes (inv_shift_rows s)) (round_key w (suc n)))} n m, sub_inv_sub (inv_shift_bytes m), shift_inv_shift m, mix_inv_mix k)
       (add_twice (round_key w (suc n)) (inv_sub_bytes_lem (inv_shift_bytes b)))
 
   pub cipher-inv_cipher : (nr : ℕ) {block : List ℕ} → Bytes 16 block → cipher nr w (inv_cipher nr w block) ≡ block
