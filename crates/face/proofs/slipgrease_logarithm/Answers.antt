@@ -1,0 +1,9 @@
+-- The call's own answer, packed.
+-- Assumes nothing.
+use mathlib.Core.Path.{ap, ◌∙◌}
+use borrow.Author.Rules.{rules}
+use Rattle.face.specs.Packed.{packed}
+use Rattle.face.proofs.slipgrease_logarithm.Goals as goal
+
+pub returns : goal.returns
+returns c = c.packed.ensures ∙ ap packed c.logarithm.ensures
