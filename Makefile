@@ -23,7 +23,6 @@ test: ## runs every check of the project, the gate last
 	@tools/replies
 	@tools/pages-test
 	@tools/pages
-	@rt fmt --check
 	@tools/gate
 
 help: ## lists these commands
@@ -45,7 +44,7 @@ uninstall: ## removes what make install installed under PREFIX
 	@tools/put --remove '$(PREFIX)' '$(DESTDIR)'
 
 clean: ## removes all that was proved and built
-	@rm -rf build target host/target
+	@rm -rf build host/target crates/*/out
 
 worked: ## shows worked examples of the field and the rack's rounds, by a proved program
 	@tools/kit >&2

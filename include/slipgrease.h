@@ -106,6 +106,10 @@ extern "C" {
 #define SLIPGREASE_REPLY_PIPES_WRONG 22     /* the list is not 3,486 bytes, or has a PID outside 0010 to 1ffe, or the same PID twice */
 #define SLIPGREASE_REPLY_BITS_WRONG 23      /* the scrambling bits do not allow what is to be done */
 #define SLIPGREASE_REPLY_OFFSET_PER_BYTE 24 /* there are not 16 offsets, one for each byte of the block */
+#define SLIPGREASE_REPLY_PARTY_FULL 25      /* the party holds twelve schedules already */
+#define SLIPGREASE_REPLY_BANK_FULL 26       /* all sixteen places are held */
+#define SLIPGREASE_REPLY_NOT_LOADED 27      /* the party has loaded nothing under this number, or has dropped it */
+#define SLIPGREASE_REPLY_PARTY_UNKNOWN 28   /* the party is neither 0 nor 1 */
 
 /* The lengths that the calls take. Those of a key, a schedule and records are the greatest, which go with a 32-byte key. */
 #define SLIPGREASE_KEY_BYTES 32

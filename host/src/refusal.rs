@@ -66,10 +66,18 @@ pub enum Refusal {
     BitsWrong = 23,
     /// There are not 16 offsets, one for each byte of the block.
     OffsetPerByte = 24,
+    /// The party holds twelve schedules of the bank already.
+    PartyFull = 25,
+    /// All sixteen places of the bank are held.
+    BankFull = 26,
+    /// The party has loaded nothing under this number, or has dropped it.
+    NotLoaded = 27,
+    /// The party of the bank is neither 0 nor 1.
+    PartyUnknown = 28,
 }
 
 /// The name and the meaning of each, in the order of their numbers.
-const REFUSALS: [(Refusal, &str, &str); 24] = [
+const REFUSALS: [(Refusal, &str, &str); 28] = [
     (Refusal::KeyLength, "KEY_LENGTH", "the key is not 16, 24 or 32 bytes long"),
     (
         Refusal::ScheduleLength,
@@ -102,6 +110,10 @@ const REFUSALS: [(Refusal, &str, &str); 24] = [
     ),
     (Refusal::BitsWrong, "BITS_WRONG", "the scrambling bits do not allow what is to be done"),
     (Refusal::OffsetPerByte, "OFFSET_PER_BYTE", "there are not 16 offsets, one for each byte of the block"),
+    (Refusal::PartyFull, "PARTY_FULL", "the party holds twelve schedules already"),
+    (Refusal::BankFull, "BANK_FULL", "all sixteen places are held"),
+    (Refusal::NotLoaded, "NOT_LOADED", "the party has loaded nothing under this number, or has dropped it"),
+    (Refusal::PartyUnknown, "PARTY_UNKNOWN", "the party is neither 0 nor 1"),
 ];
 
 impl Refusal {
@@ -116,7 +128,7 @@ impl Refusal {
         REFUSALS.iter().map(|row| row.0).find(|refusal| refusal.number() == number)
     }
 
-    /// The reply number, 1 to 24.
+    /// The reply number, 1 to 28.
     pub fn number(self) -> u8 {
         self as u8
     }
