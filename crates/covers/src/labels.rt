@@ -1,5 +1,5 @@
 // How the labels of a masked run go: from the offset of each byte on, by a step.
-#[derive(Drop)]
+#[derive(Clone, Copy)]
 pub struct Labels {
     pub offset: u8,
     pub step: u8,

@@ -11,7 +11,7 @@ use lines::{reply, vector};
 
 // A block, with all labels, and with as many other records; the block at the end of a thousand calls, each on what the one before wrote; or a reply, the second
 // number, to a step, the first, at all offsets.
-#[derive(Drop)]
+#[derive(Clone, Copy)]
 pub enum Asked {
     Block,
     Chain,
@@ -20,7 +20,7 @@ pub enum Asked {
 
 // Whether the line could be read, how many calls are left to make, what the next one is given, the block that should come in the end,
 // and what came of the calls so far.
-#[derive(Drop)]
+#[derive(Clone, Copy)]
 pub struct Trial {
     asked: Asked,
     pub read: bool,

@@ -9,7 +9,7 @@ pub const SCHEDULED: usize = 71;
 const NOWHERE: usize = 86;
 
 // The state of a line, where it stands, and whether the line could be read.
-#[derive(Drop)]
+#[derive(Clone, Copy)]
 pub struct State {
     pub read: bool,
     pub place: usize,

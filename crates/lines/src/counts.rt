@@ -1,6 +1,6 @@
 // What was run, what differed and what could not be read, up to the line that a program has come to, and the table of it.
 use crate::print::print;
-use std::num::wrapping_add_u64;
+use std::io::Print;
 
 // As many rows as a table may have; after them comes one for all.
 const ROWS: usize = 16;
@@ -16,7 +16,7 @@ pub const SOURCE: usize = 2 * ROWS + 4;
 pub const CELLS: usize = 2 * ROWS + 5;
 
 // How many vectors were run, and how many differed. The input is too short for a count to wrap.
-#[derive(Drop)]
+#[derive(Clone, Copy)]
 pub struct Tally {
     run: u64,
     differ: u64,
@@ -29,7 +29,7 @@ impl Tally {
 
     // With one vector more.
     pub fn with(self, same: bool) -> Tally {
-        let run = wrapping_add_u64(self.run, 1);
+        let run = self.run.wrapping_add(1);
         if same {
             return Tally {
                 run,
@@ -38,7 +38,7 @@ impl Tally {
         }
         Tally {
             run,
-            differ: wrapping_add_u64(self.differ, 1),
+            differ: self.differ.wrapping_add(1),
         }
     }
 }
@@ -59,32 +59,32 @@ pub fn count(counts: &mut [u64; CELLS], row: usize, same: bool) {
 }
 
 // Counts a line, and says that it could not be read, where that is so.
-pub fn report(read: bool, counts: &mut [u64; CELLS]) {
+pub fn report(rt: &impl Print, read: bool, counts: &mut [u64; CELLS]) {
     raise(counts, LINES, 1);
     if !read {
         raise(counts, UNREAD, 1);
         let mut words = *b"line      0 could not be read\n";
         put(&mut words, 10, counts[LINES]);
-        print(&words);
+        print(rt, &words);
     }
 }
 
 fn raise(counts: &mut [u64; CELLS], cell: usize, by: u64) {
     if cell < CELLS {
-        counts[cell] = wrapping_add_u64(counts[cell], by);
+        counts[cell] = counts[cell].wrapping_add(by);
     }
 }
 
 // Prints a table that has zeros so far: a header, the rows and one for all, in lines of sixty bytes, with columns that end at byte
 // 49 and 58, and a last line for what could not be read.
-pub fn print_table(table: &mut [u8], counts: &[u64; CELLS]) {
+pub fn print_table(rt: &impl Print, table: &mut [u8], counts: &[u64; CELLS]) {
     let mut cell = 0;
     while cell < 2 * ROWS {
         put(table, 60 * (cell / 2) + 9 * (cell % 2) + 109, counts[cell]);
         cell += 1;
     }
     put_end(table, counts);
-    print(table);
+    print(rt, table);
 }
 
 // The last two lines.

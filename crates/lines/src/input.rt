@@ -2,7 +2,7 @@
 ghost use Rattle.std.specs.Prelude.{◌≡◌, ◌≤◌, length};
 
 use crate::print::print;
-use libc::STDIN_FILENO;
+use std::io::{Input, Print, Read};
 
 pub fn room() -> [u8; 196608]
     ensures { 196608 ≡ length result }
@@ -11,25 +11,28 @@ pub fn room() -> [u8; 196608]
 }
 
 // Fills the room with the input, and answers how many bytes that are: none, where not all of it can be had.
-pub fn read(text: &mut [u8]) -> usize
+pub fn read(rt: &(impl Input + Print), text: &mut [u8]) -> usize
     ensures { result ≤ length text.new }
 {
-    let n = fill(text);
-    if at_end() {
+    let mut input = rt.reader();
+    let n = fill(&mut input, text);
+    if at_end(&mut input) {
         return n;
     }
-    print(b"The input is longer than 196608 bytes, or a read failed: nothing was run.\n");
+    print(
+        rt,
+        b"The input is longer than 196608 bytes, or a read failed: nothing was run.\n",
+    );
     0
 }
 
 // Reads until the room is full, the input ends or a read fails.
-fn fill(text: &mut [u8]) -> usize
+fn fill(input: &mut impl Read, text: &mut [u8]) -> usize
     ensures { result ≤ length text.new }
 {
     let mut n = 0;
     while n < text.len() {
-        let got = libc::read(STDIN_FILENO, &mut text[n..]);
-        let more = io::count(got, &text[n..]);
+        let more = input.read(&mut text[n..]).unwrap_or(0);
         if more == 0 {
             return n;
         }
@@ -39,7 +42,7 @@ fn fill(text: &mut [u8]) -> usize
 }
 
 // Whether the input has ended: one byte more, or a read that fails, says that it has not.
-fn at_end() -> bool {
+fn at_end(input: &mut impl Read) -> bool {
     let mut more = [0u8; 1];
-    libc::read(STDIN_FILENO, &mut more) == 0
+    matches!(input.read(&mut more), Ok(0))
 }

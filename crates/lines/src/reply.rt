@@ -2,7 +2,7 @@
 use crate::text::{part, read_hex};
 
 // A step, the reply to it, and whether the line could be read.
-#[derive(Drop)]
+#[derive(Clone, Copy)]
 pub struct Expected {
     pub read: bool,
     pub step: u8,

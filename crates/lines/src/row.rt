@@ -5,7 +5,7 @@ use crate::vector::Vector;
 use check::same;
 
 // The first vector, and the blocks of all, its own among them.
-#[derive(Drop)]
+#[derive(Clone, Copy)]
 pub struct Row {
     pub first: Vector,
     pub plain: [u8; 256],

@@ -4,7 +4,7 @@ use crate::counts::{CELLS, SOURCE};
 use crate::text::place_of;
 
 // What a line is: a header, a vector of a source, or a header that is not known or a vector below none that is.
-#[derive(Drop)]
+#[derive(Clone, Copy)]
 pub enum Kind {
     Header,
     Ecb,

@@ -5,7 +5,7 @@ use crate::text::{part, read_hex};
 use check::same;
 
 // The length of a key, and that of its schedule.
-#[derive(Drop)]
+#[derive(Clone, Copy)]
 pub enum Length {
     None,
     Short,
@@ -60,7 +60,7 @@ impl Length {
 }
 
 // What a line has, and whether it could be read. Zeros follow a key that is shorter than 32 bytes.
-#[derive(Drop)]
+#[derive(Clone, Copy)]
 pub struct Vector {
     pub read: bool,
     pub length: Length,
@@ -99,7 +99,7 @@ pub fn of_fields(key_field: &[u8], plain_field: &[u8], cipher_field: &[u8]) -> V
 }
 
 // From the plain block to the cipher block, or back.
-#[derive(Drop)]
+#[derive(Clone, Copy)]
 pub enum Way {
     Encrypt,
     Decrypt,

@@ -1,6 +1,7 @@
 // The rows of the table, and the table before anything is counted.
 use lines::counts::{CELLS, print_table};
 use lines::vector::Way;
+use std::io::Print;
 
 pub const STEPS: usize = 4;
 
@@ -12,7 +13,7 @@ pub fn row(way: Way, other: bool) -> usize {
     }
 }
 
-pub fn print(counts: &[u64; CELLS]) {
+pub fn print(rt: &impl Print, counts: &[u64; CELLS]) {
     let mut table = *b"\
 AES-256 vectors, recorded masked runs          run   differ
   published masks: C.3 states                    0        0
@@ -23,5 +24,5 @@ AES-256 vectors, recorded masked runs          run   differ
   all                                            0        0
 lines that could not be read                     0
 ";
-    print_table(&mut table, counts);
+    print_table(rt, &mut table, counts);
 }

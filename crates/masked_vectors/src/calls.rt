@@ -8,7 +8,7 @@ use lines::counts::{CELLS, add};
 use masked::{encrypt_masked, encrypt_published};
 
 // Of many blocks only the reply is asked here.
-#[derive(Drop)]
+#[derive(Clone, Copy)]
 pub enum Call {
     Published,
     Masked,

@@ -14,13 +14,14 @@ use lines::row;
 use lines::source::{Kind, kind_of};
 use lines::text::{part, past};
 use lines::vector::Way;
+use std::io::Print;
 
-fn main() {
+fn main(rt: HostRuntime) {
     let mut text = room();
-    let n = read(&mut text);
+    let n = read(&rt, &mut text);
     let mut counts = [0u64; CELLS];
-    run(&text[0..n], &mut counts);
-    table::print(&counts);
+    run(&rt, &text[0..n], &mut counts);
+    table::print(&rt, &counts);
 }
 
 // One by one, and all of a row together.
@@ -74,10 +75,10 @@ fn either(trial: Trial, published: usize, other: usize, counts: &mut [u64; CELLS
     tried(Call::Masked, trial, other, counts)
 }
 
-fn run(text: &[u8], counts: &mut [u64; CELLS]) {
+fn run(rt: &impl Print, text: &[u8], counts: &mut [u64; CELLS]) {
     let mut at = 0;
     while at < text.len() {
-        report(one_line(&text[at..], counts), counts);
+        report(rt, one_line(&text[at..], counts), counts);
         at = past(text, at, b'\n');
     }
 }

@@ -1,5 +1,6 @@
 // The rows of the table, of which the vectors of ECB have one for each length of a key, and the table before anything is counted.
 use lines::counts::{CELLS, print_table};
+use std::io::Print;
 
 pub const PUBLISHED_ECB: usize = 0;
 
@@ -11,7 +12,7 @@ pub const OTHER_CHAINS: usize = 7;
 
 pub const STEPS: usize = 8;
 
-pub fn print(counts: &[u64; CELLS]) {
+pub fn print(rt: &impl Print, counts: &[u64; CELLS]) {
     let mut table = *b"\
 AES vectors, masked decryption                 run   differ
   published masks: NIST ECB, 128 bits            0        0
@@ -26,5 +27,5 @@ AES vectors, masked decryption                 run   differ
   all                                            0        0
 lines that could not be read                     0
 ";
-    print_table(&mut table, counts);
+    print_table(rt, &mut table, counts);
 }

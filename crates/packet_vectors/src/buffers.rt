@@ -10,7 +10,7 @@ pub const UNTOUCHED: u8 = 0xa5;
 const PIDS: [u8; 14] = *b"\x00\x10\x00\x11\x01\x00\x01\x10\x10\x00\x10\x10\x1f\xfe";
 
 // Where a message stands: in which pipe, under the even or the odd schedule, and from where to where in a packet.
-#[derive(Drop)]
+#[derive(Clone, Copy)]
 pub struct Place {
     pub pipe: usize,
     pub odd: bool,

@@ -11,7 +11,7 @@ use lines::{row, vector};
 const MOST: usize = 11;
 
 // Whether it could be read, its starting block, how many blocks it has, and its key and blocks.
-#[derive(Drop)]
+#[derive(Clone, Copy)]
 pub struct Message {
     pub read: bool,
     pub start: [u8; 16],

@@ -1,11 +1,12 @@
 // The rows of the table, and the table before anything is counted. Each source has four: both ways, even and odd.
 use lines::counts::{CELLS, print_table};
+use std::io::Print;
 
 pub const ECB: usize = 0;
 
 pub const CBC: usize = 4;
 
-pub fn print(counts: &[u64; CELLS]) {
+pub fn print(rt: &impl Print, counts: &[u64; CELLS]) {
     let mut table = *b"\
 AES-256 vectors, packets                       run   differ
   NIST ECB, chained, scrambled, even             0        0
@@ -19,5 +20,5 @@ AES-256 vectors, packets                       run   differ
   all                                            0        0
 lines that could not be read                     0
 ";
-    print_table(&mut table, counts);
+    print_table(rt, &mut table, counts);
 }

@@ -4,35 +4,50 @@
 
 ghost use Rattle.std.specs.Prelude.{◌+◌, ◌*◌, ◌≤◌, ◌<◌, length};
 
-use libc::{STDIN_FILENO, STDOUT_FILENO};
+use std::io::{Print, Read};
 
-fn main() {
+fn main(rt: HostRuntime) {
     // All of standard input is the sheet: one byte more than the longest is as wrong as any more.
     let mut input = [0u8; 23];
-    let n = io::read_full(STDIN_FILENO, &mut input);
+    let n = fill(&mut rt.stdin(), &mut input);
     let mut table = [0u8; 16];
     let read = masks::read_sheet(&input[0..n], &mut table);
     if read.number == aes::reply::DONE {
-        print(table);
+        print(&rt, table);
     } else {
-        refused(read.number);
+        refused(&rt, read.number);
     }
 }
 
-fn print(table: [u8; 16]) {
+// Reads until the room is full, the input ends or a read fails.
+fn fill(input: &mut impl Read, room: &mut [u8]) -> usize
+    ensures { result ≤ length room.new }
+{
+    let mut n = 0;
+    while n < room.len() {
+        let more = input.read(&mut room[n..]).unwrap_or(0);
+        if more == 0 {
+            return n;
+        }
+        n += more;
+    }
+    n
+}
+
+fn print(rt: &impl Print, table: [u8; 16]) {
     let mut lines = [0u8; 50176];
     let summary = beside::report(table, &mut lines);
     let triples = beside::triples();
-    if all(&lines, &triples) {
-        last(summary.even, summary.lowest, summary.highest);
+    if all(rt, &lines, &triples) {
+        last(rt, summary.even, summary.lowest, summary.highest);
     }
 }
 
 // Whether all lines could be written. A program has no status of its own to tell it, so what follows a lost line is left out.
-fn all(lines: &[u8; 50176], triples: &[u8; 168]) -> bool {
+fn all(rt: &impl Print, lines: &[u8; 50176], triples: &[u8; 168]) -> bool {
     let mut k = 0;
     while k < 112 {
-        if !group(lines, triples, k) {
+        if !group(rt, lines, triples, k) {
             return false;
         }
         k += 1;
@@ -40,24 +55,24 @@ fn all(lines: &[u8; 50176], triples: &[u8; 168]) -> bool {
     true
 }
 
-fn last(even: u16, lowest: u8, highest: u8) {
+fn last(rt: &impl Print, even: u16, lowest: u8, highest: u8) {
     let mut out = [0u8; 4096];
     let a = put(&mut out, 0, even as usize);
     let b = put(&mut out, a, lowest as usize);
     let e = put(&mut out, b, highest as usize);
     end_line(&mut out, e);
-    write(&out, e);
+    write(rt, &out, e);
 }
 
-fn refused(number: u8) {
+fn refused(rt: &impl Print, number: u8) {
     let mut out = [0u8; 4096];
     let e = put(&mut out, 0, number as usize);
     end_line(&mut out, e);
-    write(&out, e);
+    write(rt, &out, e);
 }
 
 // The 56 lines of a row and a byte.
-fn group(lines: &[u8; 50176], triples: &[u8; 168], k: usize) -> bool
+fn group(rt: &impl Print, lines: &[u8; 50176], triples: &[u8; 168], k: usize) -> bool
     requires { k < 112 }
 {
     let mut out = [0u8; 4096];
@@ -68,7 +83,7 @@ fn group(lines: &[u8; 50176], triples: &[u8; 168], k: usize) -> bool
         e = n;
         t += 1;
     }
-    write(&out, e)
+    write(rt, &out, e)
 }
 
 fn line(
@@ -143,11 +158,11 @@ fn end_line(out: &mut [u8; 4096], e: usize)
     out[e - 1] = 0x0a;
 }
 
-fn write(out: &[u8; 4096], e: usize) -> bool
+fn write(rt: &impl Print, out: &[u8; 4096], e: usize) -> bool
     requires { e ≤ 4096 }
 {
     let text = &out[..];
-    io::write_all(STDOUT_FILENO, &text[0..e])
+    rt.write_all(&text[0..e]).is_ok()
 }
 
 fn wide(x: u8) -> usize {

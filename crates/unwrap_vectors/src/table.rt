@@ -1,5 +1,6 @@
 // The rows of the table, and the table before anything is counted.
 use lines::counts::{CELLS, print_table};
+use std::io::Print;
 
 pub const PLAIN_RFC: usize = 0;
 
@@ -13,7 +14,7 @@ pub const MASKED_NIST: usize = 4;
 
 pub const MASKED_DAMAGED: usize = 5;
 
-pub fn print(counts: &[u64; CELLS]) {
+pub fn print(rt: &impl Print, counts: &[u64; CELLS]) {
     let mut table = *b"\
 AES-256 vectors, unwrapping                    run   differ
   plain engine: RFC 3394                         0        0
@@ -25,5 +26,5 @@ AES-256 vectors, unwrapping                    run   differ
   all                                            0        0
 lines that could not be read                     0
 ";
-    print_table(&mut table, counts);
+    print_table(rt, &mut table, counts);
 }

@@ -12,19 +12,20 @@ use lines::counts::{CELLS, report};
 use lines::input::{read, room};
 use lines::text::past;
 use sources::one_line;
+use std::io::Print;
 
-fn main() {
+fn main(rt: HostRuntime) {
     let mut text = room();
-    let n = read(&mut text);
+    let n = read(&rt, &mut text);
     let mut counts = [0u64; CELLS];
-    run(&text[0..n], &mut counts);
-    table::print(&counts);
+    run(&rt, &text[0..n], &mut counts);
+    table::print(&rt, &counts);
 }
 
-fn run(text: &[u8], counts: &mut [u64; CELLS]) {
+fn run(rt: &impl Print, text: &[u8], counts: &mut [u64; CELLS]) {
     let mut at = 0;
     while at < text.len() {
-        report(one_line(&text[at..], counts), counts);
+        report(rt, one_line(&text[at..], counts), counts);
         at = past(text, at, b'\n');
     }
 }

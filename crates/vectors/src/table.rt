@@ -1,5 +1,6 @@
 // The rows of the table, of which the vectors of ECB have one for each length of a key, and the table before anything is counted.
 use lines::counts::{CELLS, print_table};
+use std::io::Print;
 
 pub const ECB_ENCRYPTED: usize = 0;
 
@@ -15,7 +16,7 @@ pub const CHAINS_DECRYPTED: usize = 9;
 
 pub const CONVERTED: usize = 10;
 
-pub fn print(counts: &[u64; CELLS]) {
+pub fn print(rt: &impl Print, counts: &[u64; CELLS]) {
     let mut table = *b"\
 AES vectors, plain engine                      run   differ
   NIST ECB, 128 bits, encrypted                  0        0
@@ -32,5 +33,5 @@ AES vectors, plain engine                      run   differ
   all                                            0        0
 lines that could not be read                     0
 ";
-    print_table(&mut table, counts);
+    print_table(rt, &mut table, counts);
 }

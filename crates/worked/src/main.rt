@@ -7,87 +7,107 @@ mod rack;
 use aes::reply::Valued;
 use aes::tables::entry;
 use aes::{reply, tables};
-use libc::STDOUT_FILENO;
+use std::io::Print;
 
-fn main() {
-    rack::job();
-    print(b"\nThe field under the cipher\n\n");
-    products();
-    boxes();
-    powers();
-    logarithms();
+fn main(rt: HostRuntime) {
+    rack::job(&rt);
+    print(&rt, b"\nThe field under the cipher\n\n");
+    products(&rt);
+    boxes(&rt);
+    powers(&rt);
+    logarithms(&rt);
 }
 
-fn products() {
-    example(b"57 times 83", aes::multiply(0x57, 0x83), b"FIPS 4.2");
-    example(b"57 times 13", aes::multiply(0x57, 0x13), b"FIPS 4.2");
-    example(b"57 times 02", aes::multiply(0x57, 0x02), b"FIPS 4.2");
-    example(b"ae times 02", aes::multiply(0xae, 0x02), b"FIPS 4.2");
-    example(b"00 times ff", aes::multiply(0x00, 0xff), b"00 is a factor");
-    example(b"inverse of 53", aes::inverse(0x53), b"53 times ca is 01");
-    example(b"inverse of 00", aes::inverse(0x00), b"FIPS 5.1.1");
+fn products(rt: &impl Print) {
+    example(rt, b"57 times 83", aes::multiply(0x57, 0x83), b"FIPS 4.2");
+    example(rt, b"57 times 13", aes::multiply(0x57, 0x13), b"FIPS 4.2");
+    example(rt, b"57 times 02", aes::multiply(0x57, 0x02), b"FIPS 4.2");
+    example(rt, b"ae times 02", aes::multiply(0xae, 0x02), b"FIPS 4.2");
+    example(
+        rt,
+        b"00 times ff",
+        aes::multiply(0x00, 0xff),
+        b"00 is a factor",
+    );
+    example(
+        rt,
+        b"inverse of 53",
+        aes::inverse(0x53),
+        b"53 times ca is 01",
+    );
+    example(rt, b"inverse of 00", aes::inverse(0x00), b"FIPS 5.1.1");
 }
 
-fn boxes() {
+fn boxes(rt: &impl Print) {
     let sbox = tables::sbox();
     let inv_sbox = tables::inv_sbox();
-    example(b"S of 00", entry(&sbox, 0x00), b"FIPS 5.1.1");
-    example(b"S of 53", entry(&sbox, 0x53), b"FIPS 5.1.1");
-    example(b"inverse S of ed", entry(&inv_sbox, 0xed), b"FIPS 5.3.2");
+    example(rt, b"S of 00", entry(&sbox, 0x00), b"FIPS 5.1.1");
+    example(rt, b"S of 53", entry(&sbox, 0x53), b"FIPS 5.1.1");
+    example(
+        rt,
+        b"inverse S of ed",
+        entry(&inv_sbox, 0xed),
+        b"FIPS 5.3.2",
+    );
 }
 
-fn powers() {
-    answer(b"power 0", aes::power(0), b"");
-    answer(b"power 1", aes::power(1), b"the generator");
-    answer(b"power 254", aes::power(254), b"03 times f6 is 01");
-    answer(b"power 255", aes::power(255), b"254 is the last");
+fn powers(rt: &impl Print) {
+    answer(rt, b"power 0", aes::power(0), b"");
+    answer(rt, b"power 1", aes::power(1), b"the generator");
+    answer(rt, b"power 254", aes::power(254), b"03 times f6 is 01");
+    answer(rt, b"power 255", aes::power(255), b"254 is the last");
 }
 
-fn logarithms() {
-    answer(b"logarithm of 01", aes::logarithm(0x01), b"");
-    answer(b"logarithm of f6", aes::logarithm(0xf6), b"254 in decimal");
-    answer(b"logarithm of 00", aes::logarithm(0x00), b"00 has none");
+fn logarithms(rt: &impl Print) {
+    answer(rt, b"logarithm of 01", aes::logarithm(0x01), b"");
+    answer(
+        rt,
+        b"logarithm of f6",
+        aes::logarithm(0xf6),
+        b"254 in decimal",
+    );
+    answer(rt, b"logarithm of 00", aes::logarithm(0x00), b"00 has none");
 }
 
-fn example(name: &[u8], value: u8, ground: &[u8]) {
-    column(name);
-    io::print_hex(STDOUT_FILENO, value as u64, 2);
-    ending(ground);
+fn example(rt: &impl Print, name: &[u8], value: u8, ground: &[u8]) {
+    column(rt, name);
+    let _ = print!(rt; "{value:02x}");
+    ending(rt, ground);
 }
 
 // A value with its reply: a refusal shows its number and no value.
-fn answer(name: &[u8], got: Valued, ground: &[u8]) {
+fn answer(rt: &impl Print, name: &[u8], got: Valued, ground: &[u8]) {
     if got.number == reply::DONE {
-        example(name, got.value, ground);
+        example(rt, name, got.value, ground);
     } else {
-        column(name);
-        print(b"refused, reply ");
-        io::print_decimal(STDOUT_FILENO, got.number as u64);
-        ending(ground);
+        column(rt, name);
+        print(rt, b"refused, reply ");
+        let _ = print!(rt; "{}", got.number);
+        ending(rt, ground);
     }
 }
 
 // A name, and blanks up to the column of the values.
-fn column(name: &[u8]) {
-    print(b"  ");
-    print(name);
-    print_from(b"                  ", name.len());
+fn column(rt: &impl Print, name: &[u8]) {
+    print(rt, b"  ");
+    print(rt, name);
+    print_from(rt, b"                  ", name.len());
 }
 
-fn ending(ground: &[u8]) {
+fn ending(rt: &impl Print, ground: &[u8]) {
     if 0 < ground.len() {
-        print(b"   ");
-        print(ground);
+        print(rt, b"   ");
+        print(rt, ground);
     }
-    print(b"\n");
+    print(rt, b"\n");
 }
 
-pub(crate) fn print(text: &[u8]) {
-    io::write_all(STDOUT_FILENO, text);
+pub(crate) fn print(rt: &impl Print, text: &[u8]) {
+    let _ = rt.write_all(text);
 }
 
-fn print_from(text: &[u8], from: usize) {
+fn print_from(rt: &impl Print, text: &[u8], from: usize) {
     if from < text.len() {
-        print(&text[from..]);
+        print(rt, &text[from..]);
     }
 }

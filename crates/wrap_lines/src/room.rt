@@ -10,7 +10,7 @@ pub const ROOM: usize = 264;
 pub const UNTOUCHED: u8 = 0xa5;
 
 // How much of the room is lent, what is in all of it, and whether that could be read.
-#[derive(Drop)]
+#[derive(Clone, Copy)]
 pub struct Room {
     pub read: bool,
     pub size: usize,

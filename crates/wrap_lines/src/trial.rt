@@ -7,7 +7,7 @@ use lines::counts::{CELLS, Tally, add};
 use lines::text::{part, read_hex};
 
 // The masked engine has an offset.
-#[derive(Drop)]
+#[derive(Clone, Copy)]
 pub enum Engine {
     Plain,
     Masked(u8),
@@ -20,7 +20,7 @@ const CALLS: usize = 17;
 const KEY: usize = 65;
 
 // Whether the line could be read, how many calls are left to make, what they are given and should write, and what came of those so far.
-#[derive(Drop)]
+#[derive(Clone, Copy)]
 pub struct Trial {
     pub read: bool,
     pub left: usize,

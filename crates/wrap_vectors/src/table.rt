@@ -1,5 +1,6 @@
 // The rows of the table, and the table before anything is counted.
 use lines::counts::{CELLS, print_table};
+use std::io::Print;
 
 pub const PLAIN_RFC: usize = 0;
 
@@ -9,7 +10,7 @@ pub const MASKED_RFC: usize = 2;
 
 pub const MASKED_NIST: usize = 3;
 
-pub fn print(counts: &[u64; CELLS]) {
+pub fn print(rt: &impl Print, counts: &[u64; CELLS]) {
     let mut table = *b"\
 AES-256 vectors, wrapping                      run   differ
   plain engine: RFC 3394                         0        0
@@ -19,5 +20,5 @@ AES-256 vectors, wrapping                      run   differ
   all                                            0        0
 lines that could not be read                     0
 ";
-    print_table(&mut table, counts);
+    print_table(rt, &mut table, counts);
 }
