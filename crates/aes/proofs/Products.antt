@@ -6,7 +6,7 @@ use native.Mathlib.Nat.{mul-zero, mul-one, zero-mul, add-zero}
 use native.Mathlib.Omega.{arith}
 use lib.Bits.{xor_shr, xor_mod, xor_block, xor_lt}
 use lib.Dec.{lit<}
-use Rattle.aes.specs.Byte.{◌⊕◌, bit}
+use Rattle.aes.specs.Byte.{◌⊕◌}
 use Rattle.aes.specs.Field.{double_by, times_by}
 use Rattle.aes.proofs.Xor.{mod_two, sums, xor_self, xor_zero}
 

@@ -12,7 +12,7 @@ use lib.ListN.{length, get_or, take, drop, length-append, length-drop}
 use lib.Seq.{length-take-le, ext_get_or}
 use mir.Facts.{and_yes}
 use Rattle.aes.specs.Byte.{below, table}
-use Rattle.aes.specs.State.{at, Bytes}
+use Rattle.aes.specs.State.{Bytes}
 use Rattle.aes.specs.Cipher.{cipher, inv_cipher}
 use Rattle.aes.specs.Reply.{Check, ◌else◌, answer, is_full_schedule, is_offset, is_intact}
 use Rattle.aes.proofs.Below.{under}

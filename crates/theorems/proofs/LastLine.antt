@@ -17,7 +17,7 @@ use Rattle.aes.specs.Field.{x_times, times as product, ◌•◌}
 use Rattle.aes.specs.State.{at, dot, shift_rows, mix_columns}
 use Rattle.aes.proofs.Below.{under}
 use Rattle.aes.proofs.Listed.{table_same}
-use Rattle.masks.specs.Mask.{published, one, mask}
+use Rattle.masks.specs.Mask.{published, mask}
 use Rattle.beside.specs.Fitness.{pattern, patterns, count}
 use Rattle.beside.specs.Report.{mixed_over, values_of, triples, row_at, byte_at, bit_at, counts_at, least, greatest, picked, even_lines, picked_of, lowest_of, highest_of, last_line}
 use Rattle.beside.proofs.Alike.{turns}

@@ -1,6 +1,6 @@
 -- Histories of a bank: calls of its parties, one after the other; what a party is told in them, and what it knows by that.
 -- Assumes nothing.
-use Rattle.std.specs.Prelude.{Bool, true, false, cond, List, [], ◌∷◌, ℕ, eqb, leb}
+use Rattle.std.specs.Prelude.{Bool, cond, List, [], ◌∷◌, ℕ, eqb, leb}
 use Rattle.bank.specs.declared.keys.Bank.{Bank}
 use Rattle.bank.specs.Places.{loaded_at}
 use Rattle.bank.specs.Calls.{empty_bank, schedule_in, load_of, drop_of, run_of}

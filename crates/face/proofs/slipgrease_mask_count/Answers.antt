@@ -1,7 +1,6 @@
 -- The call's own answer, packed.
 -- Assumes nothing.
 use mathlib.Core.Path.{ap, ◌∙◌}
-use borrow.Author.Rules.{rules}
 use Rattle.face.specs.Packed.{packed}
 use Rattle.face.proofs.slipgrease_mask_count.Goals as goal
 

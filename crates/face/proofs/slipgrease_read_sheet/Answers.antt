@@ -1,7 +1,6 @@
 -- The call's own answer, packed.
 -- Assumes nothing.
 use mathlib.Core.Path.{ap, ◌∙◌}
-use borrow.Author.Rules.{rules}
 use Rattle.face.specs.Packed.{packed_beside}
 use Rattle.face.proofs.slipgrease_read_sheet.Goals as goal
 

@@ -1,7 +1,6 @@
 -- The key added and the columns mixed back.
 -- Assumes nothing.
 use mathlib.Core.Path.{ap, ◌∙◌}
-use borrow.Author.Rules.{rules}
 use Rattle.aes.specs.State.{inv_mix_columns, add_round_key}
 use Rattle.aes.proofs.cipher.inv_round.Goals as goal
 

@@ -3,7 +3,6 @@
 use mathlib.Core.List.{List}
 use mathlib.Core.Path.{ap, ◌∙◌}
 use Prim.Native.Nat.{ℕ}
-use borrow.Author.Rules.{rules}
 use Rattle.aes.specs.State.{inv_sub_bytes}
 use Rattle.aes.specs.Lent.{substituted}
 use Rattle.aes.proofs.Given.{array_bytes}

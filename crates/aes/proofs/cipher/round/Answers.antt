@@ -1,7 +1,6 @@
 -- The columns mixed and the key added.
 -- Assumes nothing.
 use mathlib.Core.Path.{ap, ◌∙◌}
-use borrow.Author.Rules.{rules}
 use Rattle.aes.specs.State.{mix_columns, add_round_key}
 use Rattle.aes.proofs.cipher.round.Goals as goal
 

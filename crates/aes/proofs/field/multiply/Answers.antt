@@ -1,6 +1,5 @@
 -- 00 where a factor is 00; else the power at the sum of the logarithms modulo 255.
 -- Assumes nothing.
-use borrow.Author.Rules.{rules}
 use mathlib.Core.Path.{sym, ◌∙◌}
 use native.Mathlib.Nat.{pos_of_ne-zero}
 use native.Mathlib.Omega.{arith}

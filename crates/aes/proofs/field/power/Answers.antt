@@ -1,6 +1,5 @@
 -- 0 to 254 are taken, and 255 is refused.
 -- Assumes nothing.
-use borrow.Author.Rules.{rules}
 use borrow.Author.Tests.{le-leb, lt-leb}
 use native.Mathlib.Omega.{arith}
 use Rattle.aes.proofs.field.power.Goals as goal

@@ -1,9 +1,6 @@
 -- Which key it is, and the rest for its number of words.
 -- Assumes nothing.
 use mathlib.Core.Path.{ap}
-use borrow.Author.Rules.{rules}
-use borrow.Author.Tests.{ne_eqb}
-use lib.ListN.{length}
 use Rattle.aes.specs.Reply.{keyed}
 use Rattle.aes.proofs.key.expand_key.Goals as goal
 

@@ -8,7 +8,6 @@ use borrow.Author.Rules.{rules}
 use lib.ListN.{length}
 use Rattle.aes.specs.Key.{word_at, temp, expanded, words, key_expansion}
 use Rattle.aes.specs.Word.{word_of}
-use Rattle.aes.specs.Held.{Holds}
 use Rattle.aes.proofs.Words.{word_sum}
 use Rattle.aes.proofs.Schedule.{word_held, expanded-held, last_word}
 use Rattle.aes.proofs.key.expanded.Goals as goal

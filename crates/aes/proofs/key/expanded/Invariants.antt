@@ -1,16 +1,11 @@
 -- The array holds the key and as many words more as turns were made.
 -- Assumes nothing.
-use mathlib.Core.List.{List}
-use mathlib.Core.Path.{◌≡◌, ap, ◌∙◌}
-use Prim.Native.Nat.{ℕ, ◌+◌, ◌-◌, ◌*◌, ◌≤◌, ◌<◌}
-use native.Mathlib.Omega.{arith}
-use borrow.Author.Rules.{rules}
+use mathlib.Core.Path.{◌≡◌}
+use Prim.Native.Nat.{◌+◌, ◌-◌, ◌*◌, ◌≤◌}
 use lib.ListN.{length}
-use Rattle.aes.specs.Key.{word_at, temp, expanded, words, key_expansion}
+use Rattle.aes.specs.Key.{word_at, expanded}
 use Rattle.aes.specs.Word.{word_of}
 use Rattle.aes.specs.Held.{Holds}
-use Rattle.aes.proofs.Words.{word_sum}
-use Rattle.aes.proofs.Schedule.{word_held, expanded-held, last_word}
 use Rattle.aes.proofs.key.expanded.Given as goal
 
 abbrev pub invariant-loop-i : goal.invariant-loop-i

@@ -1,7 +1,6 @@
 -- Four bytes from 4 i on.
 -- Assumes nothing.
 use native.Mathlib.Nat.{add-zero}
-use borrow.Author.Rules.{rules}
 use Rattle.aes.proofs.key.word_at.Goals as goal
 
 pub returns : goal.returns

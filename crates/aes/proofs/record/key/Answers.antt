@@ -1,7 +1,6 @@
 -- The sum, and that it is kept.
 -- Assumes nothing.
 use mathlib.Core.Path.{ap, ◌∙◌}
-use borrow.Author.Rules.{rules}
 use Rattle.aes.specs.State.{add_round_key}
 use Rattle.aes.proofs.record.key.Goals as goal
 

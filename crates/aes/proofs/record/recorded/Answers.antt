@@ -1,13 +1,13 @@
 -- After r turns the block and the states of r rounds stand in the record.
 -- Assumes nothing.
-use mathlib.Core.List.{List, ◌∷◌}
+use mathlib.Core.List.{List}
 use mathlib.Core.Path.{◌≡◌, refl, ap, ◌∙◌}
-use Prim.Native.Nat.{ℕ, ◌+◌, ◌*◌, ◌-◌, ◌≤◌, ◌<◌}
+use Prim.Native.Nat.{ℕ, ◌+◌, ◌*◌, ◌≤◌, ◌<◌}
 use native.Mathlib.Omega.{arith}
 use borrow.Author.Rules.{rules}
 use lib.ListN.{length}
 use Rattle.aes.specs.Record.{block, five, points, plain, plain_record, bytes}
-use Rattle.aes.proofs.Written.{Written, turns, rounds_all, rounds-bytes, written_first, written_turn, written-whole}
+use Rattle.aes.proofs.Written.{rounds_all, rounds-bytes, written_first, written_turn, written-whole}
 use Rattle.aes.proofs.PlainRun.{plain_sized}
 use Rattle.aes.proofs.record.recorded.Goals as goal
 

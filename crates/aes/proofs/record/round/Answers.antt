@@ -3,7 +3,6 @@
 use mathlib.Core.List.{List}
 use mathlib.Core.Path.{sym, ap, ◌∙◌}
 use Prim.Native.Nat.{ℕ, suc}
-use borrow.Author.Rules.{rules}
 use lib.Dec.{eqb, lit≤}
 use lib.ListN.{length, get_or}
 use Rattle.aes.specs.Record.{block, keyed, boxed, shifted, five, plain}

@@ -1,8 +1,6 @@
 -- One of the three, or none.
 -- Assumes nothing.
 use mathlib.Core.Path.{sym, ap}
-use Prim.Native.Nat.{ℕ}
-use borrow.Author.Tests.{ne_eqb}
 use lib.Dec.{lit<}
 use Rattle.aes.specs.Reply.{rounds_for}
 use Rattle.aes.proofs.size.rounds_for.Goals as goal

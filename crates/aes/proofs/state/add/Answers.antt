@@ -1,6 +1,5 @@
 -- Column by column.
 -- Assumes nothing.
-use borrow.Author.Rules.{rules}
 use Rattle.aes.proofs.Columns.{sums_are}
 use Rattle.aes.proofs.state.add.Goals as goal
 

@@ -1,11 +1,8 @@
 -- Each turn copies one more byte.
 -- Assumes nothing.
 use mathlib.Core.Path.{refl}
-use Prim.Native.Nat.{◌-◌}
 use borrow.Author.Rules.{rules}
-use lib.ListN.{length}
-use Rattle.aes.specs.State.{at}
-use Rattle.aes.proofs.Fill.{Filled, filled_none, filled_more, filled_copy}
+use Rattle.aes.proofs.Fill.{filled_none, filled_more, filled_copy}
 use Rattle.aes.proofs.state.copy.Goals as goal
 
 pub loop-i-init : goal.loop-i-init

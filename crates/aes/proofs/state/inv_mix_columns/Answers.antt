@@ -1,6 +1,5 @@
 -- Column by column.
 -- Assumes nothing.
-use borrow.Author.Rules.{rules}
 use Rattle.aes.specs.State.{inv_mix_columns}
 use Rattle.aes.proofs.Columns.{columns_are}
 use Rattle.aes.proofs.state.inv_mix_columns.Goals as goal

@@ -1,6 +1,5 @@
 -- The places are those of the rule.
 -- Assumes nothing.
-use borrow.Author.Rules.{rules}
 use Rattle.aes.specs.State.{inv_shift_rows}
 use Rattle.aes.proofs.state.inv_shift_rows.Goals as goal
 

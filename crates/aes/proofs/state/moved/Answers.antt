@@ -1,11 +1,10 @@
 -- Each turn fills one more byte.
 -- Assumes nothing.
 use mathlib.Core.Path.{refl}
-use Prim.Native.Nat.{◌*◌, ◌-◌, ◌^◌, ◌%◌, ◌<◌}
+use Prim.Native.Nat.{◌*◌, ◌^◌, ◌<◌}
 use native.Mathlib.Omega.{arith}
 use borrow.Author.Rules.{rules, scaled_Fits}
-use Rattle.aes.specs.State.{at}
-use Rattle.aes.proofs.Fill.{Filled, filled_none, filled_more, filled_all}
+use Rattle.aes.proofs.Fill.{filled_none, filled_more, filled_all}
 use Rattle.aes.proofs.state.moved.Goals as goal
 
 pub overflow_mul-r : goal.overflow_mul-r

@@ -1,7 +1,6 @@
 -- The bytes of a word.
 -- Assumes nothing.
 use native.Mathlib.Nat.{div-one}
-use borrow.Author.Rules.{rules}
 use Rattle.aes.specs.Word.{word_of}
 use Rattle.aes.proofs.word.bytes.Goals as goal
 

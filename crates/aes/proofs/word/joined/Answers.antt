@@ -2,7 +2,6 @@
 -- Assumes nothing.
 use mathlib.Core.List.{List, [], ◌∷◌}
 use Prim.Native.Nat.{ℕ}
-use borrow.Author.Rules.{rules}
 use Rattle.aes.specs.State.{at}
 use Rattle.aes.specs.Word.{word_of}
 use Rattle.aes.proofs.word.joined.Goals as goal

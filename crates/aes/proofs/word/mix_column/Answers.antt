@@ -3,7 +3,6 @@
 use mathlib.Core.List.{List}
 use mathlib.Core.Path.{refl, ap, ◌∙◌}
 use Prim.Native.Nat.{ℕ}
-use borrow.Author.Rules.{rules}
 use Rattle.aes.specs.Byte.{◌⊕◌}
 use Rattle.aes.specs.Key.{rot_word}
 use Rattle.aes.specs.Word.{word_of, doubled}

@@ -1,6 +1,5 @@
 -- The checks in their order.
 -- Assumes nothing.
-use borrow.Author.Rules.{rules}
 use borrow.Author.Tests.{le-leb, lt-leb}
 use Rattle.bank.proofs.Admitted.{over, upto}
 use Rattle.bank.proofs.keys.name_refusal.Goals as goal

@@ -1,7 +1,6 @@
 -- A schedule by value has 240 bytes.
 -- Assumes nothing.
-use mathlib.Core.Path.{◌≡◌, sym}
-use borrow.Author.Rules.{rules}
+use mathlib.Core.Path.{sym}
 use borrow.Author.Tests.{eq-eqb}
 use lib.ListN.{length}
 use Rattle.aes.specs.State.{Bytes}

@@ -1,12 +1,8 @@
 -- Each turn copies one more byte.
 -- Assumes nothing.
-use mathlib.Core.Path.{◌≡◌, refl}
-use mathlib.Core.List.{List}
-use Prim.Native.Nat.{ℕ, ◌-◌, ◌≤◌}
-use lib.ListN.{length}
-use borrow.Author.Rules.{rules}
+use Prim.Native.Nat.{◌-◌}
 use Rattle.aes.specs.State.{at}
-use Rattle.aes.proofs.Fill.{Filled, filled_none, filled_more, filled_copy}
+use Rattle.aes.proofs.Fill.{Filled}
 use Rattle.bank.proofs.keys.schedule_of.Given as goal
 
 abbrev pub invariant-loop-i : goal.invariant-loop-i

@@ -1,6 +1,5 @@
 -- A number above 11 is nobody's.
 -- Assumes nothing.
-use mathlib.Core.Path.{◌∙◌}
 use borrow.Author.Rules.{rules}
 use borrow.Author.Tests.{le-leb, lt-leb}
 use Rattle.bank.specs.Places.{loaded_at}

@@ -2,13 +2,12 @@
 -- Assumes nothing.
 use mathlib.Core.Path.{◌≡◌, sym, ap, ◌∙◌}
 use mathlib.Core.List.{List}
-use Prim.Native.Nat.{ℕ, ◌-◌}
+use Prim.Native.Nat.{ℕ}
 use borrow.Author.Rules.{rules}
 use borrow.Author.Tests.{eq-eqb, ne_eqb}
-use lib.Dec.{eqb}
 use Rattle.aes.specs.Byte.{place}
-use Rattle.bank.specs.Places.{tag, lowest}
-use Rattle.bank.proofs.Walk.{First, first_none, first_here, first_on, first_all}
+use Rattle.bank.specs.Places.{lowest}
+use Rattle.bank.proofs.Walk.{first_none, first_here, first_on, first_all}
 use Rattle.bank.proofs.tags.lowest.Goals as goal
 
 -- where the tag that was made stands

@@ -1,14 +1,10 @@
 -- The search for a free number passes one a turn.
 -- Assumes nothing.
-use mathlib.Core.Path.{◌≡◌, sym, ap, ◌∙◌}
-use mathlib.Core.List.{List}
-use Prim.Native.Nat.{ℕ, ◌-◌}
-use borrow.Author.Rules.{rules}
-use borrow.Author.Tests.{eq-eqb, ne_eqb}
+use Prim.Native.Nat.{◌-◌}
 use lib.Dec.{eqb}
 use Rattle.aes.specs.Byte.{place}
-use Rattle.bank.specs.Places.{tag, lowest}
-use Rattle.bank.proofs.Walk.{First, first_none, first_here, first_on, first_all}
+use Rattle.bank.specs.Places.{tag}
+use Rattle.bank.proofs.Walk.{First}
 use Rattle.bank.proofs.tags.lowest.Given as goal
 
 abbrev pub invariant-loop-n : goal.invariant-loop-n

@@ -1,10 +1,9 @@
 -- The search passes one place a turn.
 -- Assumes nothing.
 use mathlib.Core.Path.{◌≡◌, sym, ◌∙◌}
-use Prim.Native.Nat.{◌-◌, ◌≤◌}
 use native.Mathlib.Omega.{arith}
 use borrow.Author.Rules.{rules}
-use Rattle.bank.proofs.Walk.{Sought, sought_none, sought_here, sought_on, sought_all}
+use Rattle.bank.proofs.Walk.{sought_none, sought_here, sought_on, sought_all}
 use Rattle.bank.proofs.tags.place_of.Goals as goal
 
 pub loop-k-init : goal.loop-k-init

@@ -1,10 +1,7 @@
 -- The search passes one place a turn.
 -- Assumes nothing.
-use mathlib.Core.Path.{◌≡◌, sym, ◌∙◌}
 use Prim.Native.Nat.{◌-◌, ◌≤◌}
-use native.Mathlib.Omega.{arith}
-use borrow.Author.Rules.{rules}
-use Rattle.bank.proofs.Walk.{Sought, sought_none, sought_here, sought_on, sought_all}
+use Rattle.bank.proofs.Walk.{Sought}
 use Rattle.bank.proofs.tags.place_of.Given as goal
 
 abbrev pub invariant-loop-k : goal.invariant-loop-k

@@ -1,11 +1,8 @@
 -- Each turn fills one more byte.
 -- Assumes nothing.
-use mathlib.Core.Path.{refl}
 use Prim.Native.Nat.{◌+◌, ◌*◌, ◌-◌}
-use borrow.Author.Rules.{rules}
 use Rattle.aes.specs.State.{at}
-use Rattle.aes.specs.Key.{round_key}
-use Rattle.aes.proofs.Fill.{Filled, filled_none, filled_more, filled_all}
+use Rattle.aes.proofs.Fill.{Filled}
 use Rattle.lent.proofs.blocks.sixteen.Given as goal
 
 abbrev pub invariant-loop-i : goal.invariant-loop-i

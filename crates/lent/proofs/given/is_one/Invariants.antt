@@ -1,15 +1,12 @@
 -- Each turn looks at one offset more.
 -- Assumes nothing.
-use mathlib.Core.Path.{◌≡◌, refl, ap, ◌∙◌}
-use mathlib.Core.Bool.{Bool, ◌&&◌}
+use mathlib.Core.Path.{◌≡◌}
+use mathlib.Core.Bool.{Bool}
 use mathlib.Core.List.{List}
 use Prim.Native.Nat.{ℕ, ◌+◌, ◌-◌, ◌%◌, ◌≤◌}
-use native.Mathlib.Numerals.{add-one}
-use borrow.Author.Rules.{rules}
 use lib.Dec.{eqb}
 use Rattle.aes.specs.Byte.{below}
 use Rattle.aes.specs.State.{at}
-use Rattle.masks.proofs.Row.{ended}
 use Rattle.lent.proofs.given.is_one.Given as goal
 
 abbrev pub so : List ℕ → ℕ → ℕ → Bool

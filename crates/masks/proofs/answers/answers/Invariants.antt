@@ -1,13 +1,9 @@
 -- Each turn fills one more byte, at the next position of the order, by the box over it.
 -- Assumes nothing.
-use mathlib.Core.Path.{◌≡◌, refl, ◌∙◌}
-use Prim.Native.Nat.{ℕ, ◌-◌, ◌<◌}
-use native.Mathlib.Omega.{arith}
-use borrow.Author.Rules.{rules}
+use Prim.Native.Nat.{◌-◌}
 use Rattle.aes.specs.State.{at}
-use Rattle.aes.proofs.Undo.{state-at}
 use Rattle.masks.specs.Order.{boxed_by, places_at}
-use Rattle.masks.proofs.Ordered.{Called, called_none, called_more, called_all}
+use Rattle.masks.proofs.Ordered.{Called}
 use Rattle.masks.proofs.answers.answers.Given as goal
 
 abbrev pub invariant-loop-l : goal.invariant-loop-l

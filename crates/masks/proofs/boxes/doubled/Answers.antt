@@ -2,14 +2,10 @@
 -- Assumes nothing.
 use mathlib.Core.Path.{◌≡◌, sym, ◌∙◌}
 use Prim.{⊥}
-use Prim.Native.Nat.{ℕ, ◌+◌, ◌-◌, ◌*◌, ◌%◌, ◌≤◌, ◌<◌}
+use Prim.Native.Nat.{ℕ, ◌+◌, ◌-◌, ◌*◌, ◌≤◌, ◌<◌}
 use native.Mathlib.Nat.{add-zero, zero-mod}
 use native.Mathlib.Omega.{arith}
 use borrow.Author.Rules.{rules}
-use lib.ListN.{length}
-use Rattle.aes.specs.Byte.{table}
-use Rattle.aes.specs.Held.{Holds}
-use Rattle.masks.specs.Parts.{Exchanged}
 use Rattle.masks.proofs.boxes.doubled.Goals as goal
 
 pub loop-y-init : goal.loop-y-init

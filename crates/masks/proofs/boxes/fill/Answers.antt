@@ -2,13 +2,11 @@
 -- Assumes nothing.
 use mathlib.Core.List.{List}
 use mathlib.Core.Path.{◌≡◌, ap, ◌∙◌}
-use Prim.Native.Nat.{ℕ, ◌+◌, ◌-◌, ◌*◌, ◌/◌, ◌%◌, ◌≤◌, ◌<◌}
+use Prim.Native.Nat.{ℕ, ◌+◌, ◌*◌, ◌/◌, ◌%◌, ◌≤◌, ◌<◌}
 use native.Mathlib.Omega.{arith}
 use borrow.Author.Rules.{rules}
-use lib.ListN.{length}
 use Rattle.aes.specs.Byte.{◌⊕◌, table}
 use Rattle.aes.specs.State.{at}
-use Rattle.aes.specs.Held.{Holds}
 use Rattle.aes.proofs.Part.{holds_none, holds_all}
 use Rattle.aes.proofs.Listed.{table_at, table-length}
 use Rattle.masks.specs.Parts.{turned_table}

@@ -1,19 +1,11 @@
 -- Each turn fills one row more.
 -- Assumes nothing.
-use mathlib.Core.List.{List}
-use mathlib.Core.Path.{◌≡◌, ap, ◌∙◌}
-use Prim.Native.Nat.{ℕ, ◌+◌, ◌-◌, ◌*◌, ◌/◌, ◌%◌, ◌≤◌, ◌<◌}
-use native.Mathlib.Omega.{arith}
-use borrow.Author.Rules.{rules}
+use mathlib.Core.Path.{◌≡◌}
+use Prim.Native.Nat.{ℕ, ◌-◌, ◌*◌, ◌≤◌}
 use lib.ListN.{length}
 use Rattle.aes.specs.Byte.{◌⊕◌, table}
-use Rattle.aes.specs.State.{at}
 use Rattle.aes.specs.Held.{Holds}
-use Rattle.aes.proofs.Part.{holds_none, holds_all}
-use Rattle.aes.proofs.Listed.{table_at, table-length}
 use Rattle.masks.specs.Parts.{turned_table}
-use Rattle.masks.proofs.Row.{one_more, ended}
-use Rattle.masks.proofs.Turned.{row_of, row_high, row_below}
 use Rattle.masks.proofs.boxes.fill.Given as goal
 
 abbrev pub covered : (ℕ → ℕ) → ℕ → ℕ → ℕ → ℕ

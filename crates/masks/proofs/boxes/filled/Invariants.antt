@@ -1,19 +1,12 @@
 -- After n turns the boxes of n labels stand in the array.
 -- Assumes nothing.
 use mathlib.Core.List.{List}
-use mathlib.Core.Path.{◌≡◌, refl, ◌∙◌}
-use Prim.Native.Nat.{ℕ, ◌+◌, ◌-◌, ◌*◌, ◌%◌, ◌≤◌, ◌<◌}
-use native.Mathlib.Omega.{arith}
-use borrow.Author.Rules.{rules}
-use lib.Dec.{lit≤}
+use mathlib.Core.Path.{◌≡◌}
+use Prim.Native.Nat.{ℕ, ◌-◌, ◌%◌, ◌≤◌}
 use lib.ListN.{length}
-use Rattle.aes.specs.Byte.{◌⊕◌, table}
-use Rattle.aes.specs.State.{at}
+use Rattle.aes.specs.Byte.{table}
 use Rattle.aes.specs.Held.{Holds}
-use Rattle.aes.proofs.Listed.{table-length}
-use Rattle.aes.proofs.Part.{holds_none, holds_all}
-use Rattle.masks.specs.Mask.{in_row, masked_box, masked_boxes}
-use Rattle.masks.proofs.Row.{one_more, ended, row_size, row_lent}
+use Rattle.masks.specs.Mask.{in_row, masked_box}
 use Rattle.masks.proofs.boxes.filled.Given as goal
 
 abbrev pub box : (ℕ → ℕ) → List ℕ → ℕ → ℕ → List ℕ

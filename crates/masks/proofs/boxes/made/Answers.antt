@@ -1,6 +1,5 @@
 -- Of the table of S.
 -- Assumes nothing.
-use borrow.Author.Rules.{rules}
 use Rattle.masks.proofs.boxes.made.Goals as goal
 
 pub returns : goal.returns

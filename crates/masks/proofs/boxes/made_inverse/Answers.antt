@@ -1,6 +1,5 @@
 -- Of the table of S's inverse.
 -- Assumes nothing.
-use borrow.Author.Rules.{rules}
 use Rattle.masks.proofs.boxes.made_inverse.Goals as goal
 
 pub returns : goal.returns

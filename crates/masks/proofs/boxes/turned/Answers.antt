@@ -4,14 +4,13 @@ use mathlib.Core.List.{List}
 use mathlib.Core.Path.{◌≡◌, ap, ◌∙◌}
 use Prim.Native.Nat.{ℕ, ◌-◌, ◌≤◌, ◌<◌}
 use native.Mathlib.Omega.{arith}
-use borrow.Author.Rules.{rules}
 use lib.Dec.{lit≤, lit<}
 use lib.ListN.{length}
 use Rattle.aes.specs.Byte.{◌⊕◌, table}
 use Rattle.aes.specs.State.{at}
 use Rattle.aes.proofs.Listed.{table-length}
 use Rattle.aes.proofs.Part.{holds_all}
-use Rattle.aes.proofs.Fill.{Filled, filled_none, filled_more}
+use Rattle.aes.proofs.Fill.{filled_none, filled_more}
 use Rattle.masks.specs.Parts.{turned_table}
 use Rattle.masks.proofs.Row.{one_more, ended}
 use Rattle.masks.proofs.Turned.{first_table, neighbour, second_table, turned_same, filled_holds, by_two, by_four, by_eight}

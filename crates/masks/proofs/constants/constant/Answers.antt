@@ -3,7 +3,6 @@
 use mathlib.Core.List.{List}
 use mathlib.Core.Path.{sym, ap, ◌∙◌}
 use Prim.Native.Nat.{ℕ}
-use borrow.Author.Rules.{rules}
 use Rattle.aes.specs.State.{mix_columns}
 use Rattle.masks.specs.Mask.{◌⊞◌, compensation, after_rows, after_columns}
 use Rattle.masks.specs.declared.constants.Kind.{Kind}

@@ -1,6 +1,5 @@
 -- Of the masks twice over.
 -- Assumes nothing.
-use borrow.Author.Rules.{rules}
 use Rattle.masks.proofs.constants.covers_at.Goals as goal
 
 pub returns : goal.returns

@@ -2,15 +2,14 @@
 -- Assumes nothing.
 use mathlib.Core.Path.{ap, ◌∙◌}
 use mathlib.Core.List.{List}
-use Prim.Native.Nat.{ℕ, ◌-◌, ◌≤◌}
-use borrow.Author.Rules.{rules}
+use Prim.Native.Nat.{ℕ}
 use lib.Dec.{lit≤}
 use Rattle.aes.specs.State.{mix_columns}
 use Rattle.aes.proofs.Undo.{add_size}
 use Rattle.masks.specs.declared.constants.Kind.TheVariants.{Compensation}
 use Rattle.masks.specs.Mask.{◌⊞◌, compensation}
 use Rattle.masks.proofs.Row.{one_more, ended}
-use Rattle.masks.proofs.Rows.{Made, made_none, made_more, made_all, room}
+use Rattle.masks.proofs.Rows.{made_none, made_more, made_all, room}
 use Rattle.masks.proofs.constants.each_compensation.Goals as goal
 
 pub loop-n-init : goal.loop-n-init

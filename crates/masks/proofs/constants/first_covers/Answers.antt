@@ -1,6 +1,5 @@
 -- Of the masks twice over.
 -- Assumes nothing.
-use borrow.Author.Rules.{rules}
 use Rattle.masks.proofs.constants.first_covers.Goals as goal
 
 pub returns : goal.returns

@@ -2,18 +2,15 @@
 -- Assumes nothing.
 use mathlib.Core.List.{List}
 use mathlib.Core.Path.{◌≡◌, refl, ap, ap₂, ◌∙◌}
-use Prim.Native.Nat.{ℕ, ◌+◌, ◌-◌, ◌*◌, ◌%◌, ◌≤◌, ◌<◌}
+use Prim.Native.Nat.{ℕ, ◌+◌, ◌*◌, ◌%◌, ◌≤◌, ◌<◌}
 use native.Mathlib.Nat.{zero-add}
 use native.Mathlib.Omega.{arith}
-use borrow.Author.Rules.{rules}
 use lib.Dec.{lit≤}
-use lib.ListN.{length}
 use Rattle.aes.specs.Byte.{table}
 use Rattle.aes.specs.State.{at, state}
-use Rattle.aes.specs.Held.{Holds}
 use Rattle.aes.proofs.Part.{holds_none}
 use Rattle.aes.proofs.Xor.{xor_zero}
-use Rattle.masks.specs.Mask.{one, twice}
+use Rattle.masks.specs.Mask.{one}
 use Rattle.masks.specs.Kinds.{constant_of}
 use Rattle.masks.proofs.Row.{one_more, ended, row_label}
 use Rattle.masks.proofs.Stored.{laid_out}

@@ -1,23 +1,13 @@
 -- After n turns the constants of n labels stand in the buffer.
 -- Assumes nothing.
 use mathlib.Core.List.{List}
-use mathlib.Core.Path.{◌≡◌, refl, ap, ap₂, ◌∙◌}
-use Prim.Native.Nat.{ℕ, ◌+◌, ◌-◌, ◌*◌, ◌%◌, ◌≤◌, ◌<◌}
-use native.Mathlib.Nat.{zero-add}
-use native.Mathlib.Omega.{arith}
-use borrow.Author.Rules.{rules}
-use lib.Dec.{lit≤}
+use mathlib.Core.Path.{◌≡◌}
+use Prim.Native.Nat.{ℕ, ◌-◌, ◌*◌, ◌%◌, ◌≤◌}
 use lib.ListN.{length}
 use Rattle.aes.specs.Byte.{table}
-use Rattle.aes.specs.State.{at, state}
 use Rattle.aes.specs.Held.{Holds}
-use Rattle.aes.proofs.Part.{holds_none}
-use Rattle.aes.proofs.Xor.{xor_zero}
-use Rattle.masks.specs.Mask.{one, twice}
-use Rattle.masks.specs.Kinds.{constant_of}
-use Rattle.masks.proofs.Row.{one_more, ended, row_label}
-use Rattle.masks.proofs.Stored.{laid_out}
-use Rattle.masks.proofs.Columns.{row_byte, turning, kind_sized, first_four}
+use Rattle.masks.specs.Mask.{twice}
+use Rattle.masks.proofs.Columns.{row_byte, turning}
 use Rattle.masks.proofs.constants.first_four.Given as goal
 
 abbrev pub invariant-loop-n : goal.invariant-loop-n

@@ -2,18 +2,15 @@
 -- Assumes nothing.
 use mathlib.Core.Path.{◌≡◌, sym, ap, ◌∙◌}
 use mathlib.Core.List.{List}
-use Prim.Native.Nat.{ℕ, ◌+◌, ◌-◌, ◌*◌, ◌≤◌, ◌<◌}
+use Prim.Native.Nat.{ℕ, ◌+◌, ◌*◌, ◌≤◌, ◌<◌}
 use native.Mathlib.Omega.{arith}
-use borrow.Author.Rules.{rules}
 use lib.Dec.{lit≤}
-use lib.ListN.{length}
 use Rattle.aes.specs.Byte.{table}
 use Rattle.aes.specs.State.{at}
-use Rattle.aes.specs.Held.{Holds}
 use Rattle.aes.proofs.Listed.{table-length}
 use Rattle.aes.proofs.Part.{holds_none, holds_all}
 use Rattle.aes.proofs.Xor.{xor_zero}
-use Rattle.masks.specs.Mask.{one, twice, mask}
+use Rattle.masks.specs.Mask.{one, mask}
 use Rattle.masks.proofs.Row.{one_more, ended}
 use Rattle.masks.proofs.Columns.{row_byte, row_byte_lem}
 use Rattle.masks.proofs.Rows.{room, covers_bytes, first_is}

@@ -1,22 +1,13 @@
 -- Each turn fills one row more.
 -- Assumes nothing.
-use mathlib.Core.Path.{◌≡◌, sym, ap, ◌∙◌}
+use mathlib.Core.Path.{◌≡◌}
 use mathlib.Core.List.{List}
-use Prim.Native.Nat.{ℕ, ◌+◌, ◌-◌, ◌*◌, ◌≤◌, ◌<◌}
-use native.Mathlib.Omega.{arith}
-use borrow.Author.Rules.{rules}
-use lib.Dec.{lit≤}
+use Prim.Native.Nat.{ℕ, ◌-◌, ◌*◌, ◌≤◌}
 use lib.ListN.{length}
 use Rattle.aes.specs.Byte.{table}
-use Rattle.aes.specs.State.{at}
 use Rattle.aes.specs.Held.{Holds}
-use Rattle.aes.proofs.Listed.{table-length}
-use Rattle.aes.proofs.Part.{holds_none, holds_all}
-use Rattle.aes.proofs.Xor.{xor_zero}
 use Rattle.masks.specs.Mask.{one, twice, mask}
-use Rattle.masks.proofs.Row.{one_more, ended}
-use Rattle.masks.proofs.Columns.{row_byte, row_byte_lem}
-use Rattle.masks.proofs.Rows.{room, covers_bytes, first_is}
+use Rattle.masks.proofs.Columns.{row_byte}
 use Rattle.masks.proofs.constants.in_rows.Given as goal
 
 abbrev pub invariant-loop-n : goal.invariant-loop-n

@@ -1,17 +1,13 @@
 -- After the first four each turn fills one row more.
 -- Assumes nothing.
-use mathlib.Core.List.{List}
 use mathlib.Core.Path.{◌≡◌, refl, sym, ◌∙◌}
-use Prim.Native.Nat.{ℕ, ◌+◌, ◌-◌, ◌%◌, ◌≤◌, ◌<◌}
+use Prim.Native.Nat.{ℕ, ◌+◌, ◌%◌, ◌≤◌, ◌<◌}
 use native.Mathlib.Omega.{arith}
-use borrow.Author.Rules.{rules}
 use lib.Dec.{lit≤}
-use lib.ListN.{length}
 use Rattle.aes.specs.Byte.{table}
 use Rattle.aes.specs.Held.{Holds}
 use Rattle.aes.proofs.Listed.{table-length}
 use Rattle.aes.proofs.Part.{holds_all}
-use Rattle.masks.specs.declared.constants.Kind.{Kind}
 use Rattle.masks.proofs.Row.{ended}
 use Rattle.masks.specs.Mask.{one}
 use Rattle.masks.proofs.Columns.{row_byte, turning, first_four, all_sixteen, twelve, four}

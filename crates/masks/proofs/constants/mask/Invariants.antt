@@ -1,11 +1,8 @@
 -- Each turn fills one more byte, from where the mask of its position lies.
 -- Assumes nothing.
-use mathlib.Core.Path.{◌≡◌, refl, ap}
-use Prim.Native.Nat.{ℕ, ◌+◌, ◌-◌, ◌%◌, ◌<◌}
-use native.Mathlib.Omega.{arith}
-use borrow.Author.Rules.{rules}
+use Prim.Native.Nat.{◌+◌, ◌-◌, ◌%◌}
 use Rattle.aes.specs.State.{at}
-use Rattle.aes.proofs.Fill.{Filled, filled_none, filled_more, filled_all}
+use Rattle.aes.proofs.Fill.{Filled}
 use Rattle.masks.proofs.constants.mask.Given as goal
 
 abbrev pub invariant-loop-l : goal.invariant-loop-l

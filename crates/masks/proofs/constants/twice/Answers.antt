@@ -1,11 +1,9 @@
 -- Each turn fills one more byte.
 -- Assumes nothing.
 use mathlib.Core.Path.{refl}
-use Prim.Native.Nat.{◌-◌, ◌%◌}
 use borrow.Author.Rules.{rules}
 use Rattle.aes.specs.Byte.{table}
-use Rattle.aes.specs.State.{at}
-use Rattle.aes.proofs.Fill.{Filled, filled_none, filled_more, filled_all}
+use Rattle.aes.proofs.Fill.{filled_none, filled_more, filled_all}
 use Rattle.masks.proofs.constants.twice.Goals as goal
 
 pub loop-i-init : goal.loop-i-init

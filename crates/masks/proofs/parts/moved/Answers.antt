@@ -1,12 +1,10 @@
 -- Each turn fills one more entry, with what f has there.
 -- Assumes nothing.
 use mathlib.Core.Path.{◌≡◌, refl, ◌∙◌}
-use Prim.Native.Nat.{ℕ, ◌+◌, ◌-◌, ◌≤◌, ◌<◌}
+use Prim.Native.Nat.{ℕ, ◌+◌, ◌≤◌, ◌<◌}
 use native.Mathlib.Nat.{add-zero}
 use native.Mathlib.Omega.{arith}
-use borrow.Author.Rules.{rules}
-use lib.ListN.{length, length-set}
-use Rattle.aes.proofs.Fill.{Filled}
+use lib.ListN.{length-set}
 use Rattle.masks.proofs.Row.{one_more}
 use Rattle.masks.proofs.Turned.{filled_holds, holds_filled, filled_step}
 use Rattle.masks.proofs.parts.moved.Goals as goal

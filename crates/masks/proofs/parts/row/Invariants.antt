@@ -1,16 +1,11 @@
 -- Each turn fills one more entry, with what f has there.
 -- Assumes nothing.
-use mathlib.Core.Path.{◌≡◌, refl}
+use mathlib.Core.Path.{◌≡◌}
 use Prim.Native.Nat.{ℕ, ◌+◌, ◌-◌, ◌≤◌, ◌<◌}
-use native.Mathlib.Nat.{add-zero}
-use native.Mathlib.Omega.{arith}
-use borrow.Author.Rules.{rules}
-use lib.ListN.{length, length-set}
+use lib.ListN.{length}
 use Rattle.aes.specs.Byte.{◌⊕◌}
 use Rattle.aes.specs.State.{at}
 use Rattle.aes.proofs.Fill.{Filled}
-use Rattle.masks.proofs.Row.{one_more}
-use Rattle.masks.proofs.Turned.{filled_holds, holds_filled, filled_step}
 use Rattle.masks.proofs.parts.row.Given as goal
 
 abbrev pub invariant-loop-i : goal.invariant-loop-i

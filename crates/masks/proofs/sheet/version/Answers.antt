@@ -1,6 +1,5 @@
 -- Two bytes make no number that wraps.
 -- Assumes nothing.
-use borrow.Author.Rules.{rules}
 use native.Mathlib.Omega.{arith}
 use Rattle.masks.proofs.sheet.version.Goals as goal
 

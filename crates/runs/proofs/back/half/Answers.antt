@@ -2,7 +2,6 @@
 -- Assumes nothing.
 use mathlib.Core.Path.{◌∙◌, ap}
 use Prim.Native.Nat.{ℕ, ◌+◌, ◌%◌}
-use borrow.Author.Rules.{rules}
 use Rattle.aes.specs.Key.{round_key}
 use Rattle.masks.specs.Mask.{◌⊞◌}
 use Rattle.masks.specs.Order.{boxed_by, boxes_at}

@@ -1,25 +1,12 @@
 -- After each turn one round more is whole.
 -- Assumes nothing.
-use mathlib.Core.List.{List, ◌∷◌, ◌++◌}
-use mathlib.Core.Path.{◌≡◌, refl, sym, ap, ◌∙◌}
-use Prim.Native.Nat.{ℕ, suc, ◌+◌, ◌-◌, ◌*◌, ◌%◌, ◌<◌, ◌≤◌}
-use native.Mathlib.Omega.{arith}
-use borrow.Author.Rules.{rules}
-use borrow.Author.Tests.{eqb-true, eqb-false}
-use lib.ListN.{length}
-use Rattle.aes.specs.State.{at, inv_shift_rows, inv_mix_columns, Bytes}
-use Rattle.aes.specs.Key.{round_key}
+use mathlib.Core.List.{List, ◌∷◌}
+use mathlib.Core.Path.{◌≡◌}
+use Prim.Native.Nat.{ℕ, ◌+◌, ◌-◌, ◌*◌, ◌%◌, ◌<◌, ◌≤◌}
 use Rattle.aes.specs.Record.{run, last}
-use Rattle.aes.proofs.Steps.{byte}
-use Rattle.aes.proofs.Undo.{add_size}
-use Rattle.masks.specs.Mask.{◌⊞◌, advanced, mask}
-use Rattle.masks.specs.Order.{boxed_by, boxes_at}
-use Rattle.runs.specs.Back.{Back, block, keyed, six, closing, sixes, back_points, masked_inv_cipher}
+use Rattle.masks.specs.Mask.{mask}
+use Rattle.runs.specs.Back.{Back, block, keyed, sixes}
 use Rattle.runs.specs.Lent.{back_steps}
-use Rattle.runs.proofs.Labels.{first_label, label_on, label-below}
-use Rattle.runs.proofs.LentSteps.{reached_more, last_any}
-use Rattle.runs.proofs.BackSteps.{lent_back}
-use Rattle.runs.proofs.Owned.{field_bytes}
 use Rattle.runs.proofs.back.opened.Given as goal
 
 -- the block, its key and r whole rounds

@@ -10,7 +10,7 @@ use Rattle.aes.specs.State.{at, Bytes}
 use Rattle.aes.specs.Record.{run, bytes}
 use Rattle.aes.proofs.Steps.{byte}
 use Rattle.aes.proofs.Undo.{add_size}
-use Rattle.aes.proofs.Written.{Written, turns, turns_length, recorded_one, written_first, written_turn, written_step, written_all}
+use Rattle.aes.proofs.Written.{turns, turns_length, recorded_one, written_first, written_turn, written_step, written_all}
 use Rattle.masks.specs.Mask.{◌⊞◌, advanced, mask}
 use Rattle.runs.specs.Back.{Back, block, uncovered, masked_back_record}
 use Rattle.runs.specs.Lent.{back_steps}

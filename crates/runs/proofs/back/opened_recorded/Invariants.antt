@@ -1,24 +1,14 @@
 -- After m turns the covered block and m states behind it stand in the record.
 -- Assumes nothing.
-use mathlib.Core.List.{List, [], ◌∷◌, ◌++◌}
-use mathlib.Core.Path.{◌≡◌, refl, sym, ap, ◌∙◌}
-use Prim.Native.Nat.{ℕ, ◌+◌, ◌-◌, ◌*◌, ◌/◌, ◌%◌, ◌≤◌, ◌<◌}
-use native.Mathlib.Omega.{arith}
-use borrow.Author.Rules.{rules}
-use lib.ListN.{length, length-append}
-use Rattle.aes.specs.State.{at, Bytes}
-use Rattle.aes.specs.Record.{run, bytes}
-use Rattle.aes.proofs.Steps.{byte}
-use Rattle.aes.proofs.Undo.{add_size}
-use Rattle.aes.proofs.Written.{Written, turns, turns_length, recorded_one, written_first, written_turn, written_step, written_all}
-use Rattle.masks.specs.Mask.{◌⊞◌, advanced, mask}
-use Rattle.runs.specs.Back.{Back, block, uncovered, masked_back_record}
+use mathlib.Core.List.{List, ◌∷◌}
+use mathlib.Core.Path.{◌≡◌}
+use Prim.Native.Nat.{ℕ, ◌+◌, ◌-◌, ◌*◌, ◌/◌, ◌%◌, ◌≤◌}
+use lib.ListN.{length}
+use Rattle.aes.proofs.Written.{Written, turns}
+use Rattle.masks.specs.Mask.{mask}
+use Rattle.runs.specs.Back.{block}
 use Rattle.runs.specs.Lent.{back_steps}
-use Rattle.masks.proofs.Row.{one_more, ended}
-use Rattle.runs.proofs.Labels.{first_label, label-below}
-use Rattle.runs.proofs.BackSteps.{lent_back}
-use Rattle.runs.proofs.BackRecord.{back_sized, after, all_points}
-use Rattle.runs.proofs.Owned.{field_bytes}
+use Rattle.runs.proofs.BackRecord.{after}
 use Rattle.runs.proofs.back.opened_recorded.Given as goal
 
 -- the constant of a run's end

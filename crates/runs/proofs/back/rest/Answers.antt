@@ -1,7 +1,6 @@
 -- Three steps, one after the other.
 -- Assumes nothing.
 use mathlib.Core.Path.{◌∙◌, ap}
-use borrow.Author.Rules.{rules}
 use Rattle.aes.specs.State.{inv_mix_columns}
 use Rattle.aes.specs.Key.{round_key}
 use Rattle.masks.specs.Mask.{◌⊞◌}

@@ -1,10 +1,8 @@
 -- Each turn writes one more byte.
 -- Assumes nothing.
 use mathlib.Core.Path.{refl, ◌∙◌}
-use Prim.Native.Nat.{◌-◌}
 use borrow.Author.Rules.{rules}
-use Rattle.aes.specs.State.{at}
-use Rattle.aes.proofs.Fill.{Filled, filled_none, filled_more, filled_all}
+use Rattle.aes.proofs.Fill.{filled_none, filled_more, filled_all}
 use Rattle.aes.proofs.Undo.{state-at}
 use Rattle.runs.proofs.blocks.keep.Goals as goal
 

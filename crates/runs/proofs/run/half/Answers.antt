@@ -2,7 +2,6 @@
 -- Assumes nothing.
 use mathlib.Core.Path.{◌∙◌, ap}
 use Prim.Native.Nat.{ℕ, ◌+◌, ◌%◌}
-use borrow.Author.Rules.{rules}
 use Rattle.aes.specs.State.{shift_rows}
 use Rattle.masks.specs.Order.{boxed_by, boxes_at}
 use Rattle.runs.proofs.run.half.Goals as goal

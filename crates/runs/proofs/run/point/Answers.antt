@@ -1,9 +1,8 @@
 -- Each way ends in the step that the point names.
 -- Assumes nothing.
 use mathlib.Core.Path.{◌≡◌}
-use Prim.Native.Nat.{ℕ, ◌%◌}
+use Prim.Native.Nat.{◌%◌}
 use native.Mathlib.Omega.{arith}
-use borrow.Author.Rules.{rules}
 use Rattle.runs.proofs.Points.{keyed_done, boxed_done, shifted_done, mixed_done, closed_done, compensated_done}
 use Rattle.runs.proofs.run.point.Goals as goal
 

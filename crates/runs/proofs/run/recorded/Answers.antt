@@ -1,6 +1,6 @@
 -- After m turns the covered block and m states behind it stand in the record.
 -- Assumes nothing.
-use mathlib.Core.List.{List, ◌∷◌}
+use mathlib.Core.List.{List}
 use mathlib.Core.Path.{◌≡◌, refl, sym, ap, ◌∙◌}
 use Prim.Native.Nat.{ℕ, ◌+◌, ◌-◌, ◌*◌, ◌/◌, ◌%◌, ◌≤◌, ◌<◌}
 use native.Mathlib.Omega.{arith}
@@ -10,7 +10,7 @@ use Rattle.aes.specs.State.{at, shift_rows, Bytes}
 use Rattle.aes.specs.Record.{block, points, bytes}
 use Rattle.aes.proofs.Steps.{byte}
 use Rattle.aes.proofs.Undo.{add_size}
-use Rattle.aes.proofs.Written.{Written, turns, rounds-bytes, written_first, written-whole}
+use Rattle.aes.proofs.Written.{rounds-bytes, written_first, written-whole}
 use Rattle.masks.specs.Mask.{◌⊞◌, advanced, mask}
 use Rattle.runs.specs.Run.{masked_record}
 use Rattle.runs.specs.Lent.{steps}

@@ -1,23 +1,15 @@
 -- After m turns the covered block and m states behind it stand in the record.
 -- Assumes nothing.
 use mathlib.Core.List.{List, ◌∷◌}
-use mathlib.Core.Path.{◌≡◌, refl, sym, ap, ◌∙◌}
-use Prim.Native.Nat.{ℕ, ◌+◌, ◌-◌, ◌*◌, ◌/◌, ◌%◌, ◌≤◌, ◌<◌}
-use native.Mathlib.Omega.{arith}
-use borrow.Author.Rules.{rules}
+use mathlib.Core.Path.{◌≡◌}
+use Prim.Native.Nat.{ℕ, ◌+◌, ◌-◌, ◌*◌, ◌/◌, ◌%◌, ◌≤◌}
 use lib.ListN.{length}
-use Rattle.aes.specs.State.{at, shift_rows, Bytes}
-use Rattle.aes.specs.Record.{block, points, bytes}
-use Rattle.aes.proofs.Steps.{byte}
-use Rattle.aes.proofs.Undo.{add_size}
-use Rattle.aes.proofs.Written.{Written, turns, rounds-bytes, written_first, written-whole}
-use Rattle.masks.specs.Mask.{◌⊞◌, advanced, mask}
-use Rattle.runs.specs.Run.{masked_record}
+use Rattle.aes.specs.State.{shift_rows}
+use Rattle.aes.specs.Record.{block}
+use Rattle.aes.proofs.Written.{Written, turns}
+use Rattle.masks.specs.Mask.{mask}
 use Rattle.runs.specs.Lent.{steps}
-use Rattle.masks.proofs.Row.{one_more, ended}
-use Rattle.runs.proofs.Labels.{first_label, label-below}
-use Rattle.runs.proofs.LentSteps.{steps_sized, after, after_all, after-written, uncovering-last, lent_record}
-use Rattle.runs.proofs.Owned.{field_bytes}
+use Rattle.runs.proofs.LentSteps.{after}
 use Rattle.runs.proofs.run.recorded.Given as goal
 
 -- the constant of a run's end

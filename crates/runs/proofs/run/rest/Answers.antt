@@ -1,7 +1,6 @@
 -- Two steps, one after the other.
 -- Assumes nothing.
 use mathlib.Core.Path.{◌∙◌}
-use borrow.Author.Rules.{rules}
 use Rattle.aes.specs.Key.{round_key}
 use Rattle.masks.specs.Mask.{◌⊞◌}
 use Rattle.runs.proofs.run.rest.Goals as goal

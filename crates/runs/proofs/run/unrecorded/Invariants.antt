@@ -1,24 +1,12 @@
 -- After each turn one round more is whole.
 -- Assumes nothing.
-use mathlib.Core.List.{List, ◌∷◌, ◌++◌}
-use mathlib.Core.Path.{◌≡◌, refl, sym, ap, ◌∙◌}
-use Prim.Native.Nat.{ℕ, suc, ◌+◌, ◌-◌, ◌*◌, ◌%◌, ◌<◌, ◌≤◌}
-use native.Mathlib.Omega.{arith}
-use borrow.Author.Rules.{rules}
-use borrow.Author.Tests.{eqb-true, eqb-false}
-use lib.ListN.{length}
-use Rattle.aes.specs.State.{at, shift_rows, mix_columns, Bytes}
-use Rattle.aes.specs.Key.{round_key}
-use Rattle.aes.specs.Record.{Point, block, whole, final, wholes, points, run, last}
-use Rattle.aes.proofs.Steps.{byte}
-use Rattle.aes.proofs.Undo.{add_size}
-use Rattle.masks.specs.Mask.{◌⊞◌, advanced, mask}
-use Rattle.masks.specs.Order.{boxed_by, boxes_at}
-use Rattle.runs.specs.Run.{masked_cipher}
+use mathlib.Core.List.{List, ◌∷◌}
+use mathlib.Core.Path.{◌≡◌}
+use Prim.Native.Nat.{ℕ, ◌+◌, ◌-◌, ◌*◌, ◌%◌, ◌<◌}
+use Rattle.aes.specs.State.{shift_rows}
+use Rattle.aes.specs.Record.{Point, block, wholes, run, last}
+use Rattle.masks.specs.Mask.{mask}
 use Rattle.runs.specs.Lent.{steps}
-use Rattle.runs.proofs.Labels.{first_label, label_on, label-below}
-use Rattle.runs.proofs.LentSteps.{reached_more, last_any, lent_record}
-use Rattle.runs.proofs.Owned.{field_bytes}
 use Rattle.runs.proofs.run.unrecorded.Given as goal
 
 -- the block and r whole rounds

@@ -1,7 +1,6 @@
 -- What the boxes answer under the label of the masks, and that it is kept.
 -- Assumes nothing.
 use mathlib.Core.Path.{◌∙◌}
-use borrow.Author.Rules.{rules}
 use Rattle.runs.proofs.steps.answered.Goals as goal
 
 pub returns : goal.returns

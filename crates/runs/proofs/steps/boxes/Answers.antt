@@ -1,7 +1,6 @@
 -- What the boxes answer, in the round that follows.
 -- Assumes nothing.
 use mathlib.Core.Path.{◌∙◌}
-use borrow.Author.Rules.{rules}
 use Rattle.runs.proofs.steps.boxes.Goals as goal
 
 pub returns : goal.returns

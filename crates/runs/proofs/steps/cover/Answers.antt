@@ -1,7 +1,6 @@
 -- The first mask on the block, and that it is kept.
 -- Assumes nothing.
 use mathlib.Core.Path.{◌∙◌}
-use borrow.Author.Rules.{rules}
 use Rattle.runs.proofs.steps.cover.Goals as goal
 
 pub returns : goal.returns

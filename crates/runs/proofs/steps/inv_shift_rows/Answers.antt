@@ -1,7 +1,6 @@
 -- The rows shifted back, and that they are kept.
 -- Assumes nothing.
 use mathlib.Core.Path.{◌∙◌}
-use borrow.Author.Rules.{rules}
 use Rattle.runs.proofs.steps.inv_shift_rows.Goals as goal
 
 pub returns : goal.returns

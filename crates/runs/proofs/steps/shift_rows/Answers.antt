@@ -1,7 +1,6 @@
 -- The rows shifted, and that they are kept.
 -- Assumes nothing.
 use mathlib.Core.Path.{◌∙◌}
-use borrow.Author.Rules.{rules}
 use Rattle.runs.proofs.steps.shift_rows.Goals as goal
 
 pub returns : goal.returns

@@ -3,7 +3,6 @@
 use mathlib.Core.List.{List}
 use mathlib.Core.Path.{ap, ◌∙◌}
 use Prim.Native.Nat.{ℕ}
-use borrow.Author.Rules.{rules}
 use Rattle.masks.specs.Mask.{◌⊞◌}
 use Rattle.runs.proofs.steps.uncover_plain.Goals as goal
 

@@ -3,7 +3,6 @@
 use mathlib.Core.List.{List}
 use mathlib.Core.Path.{refl, ◌∙◌}
 use Prim.Native.Nat.{ℕ}
-use borrow.Author.Rules.{rules}
 use Rattle.runs.specs.Run.{masked_cipher}
 use Rattle.aes.specs.Key.{rounds_of}
 use Rattle.lent.proofs.Begun.{started, run-told}

@@ -3,7 +3,6 @@
 use mathlib.Core.List.{List}
 use mathlib.Core.Path.{refl, ◌∙◌}
 use Prim.Native.Nat.{ℕ}
-use borrow.Author.Rules.{rules}
 use Rattle.aes.specs.Record.{bytes}
 use Rattle.runs.specs.Run.{masked_record}
 use Rattle.aes.specs.Key.{rounds_of}

@@ -8,7 +8,6 @@ use borrow.Author.Rules.{rules}
 use lib.ListN.{length, take, drop}
 use Rattle.aes.specs.State.{at}
 use Rattle.aes.specs.Key.{rounds_of}
-use Rattle.aes.specs.Held.{Holds}
 use Rattle.aes.proofs.Schedule.{known}
 use Rattle.aes.proofs.Part.{holds_none, holds_all}
 use Rattle.masks.specs.Mask.{published, one, advanced, in_row}

@@ -3,7 +3,6 @@
 use mathlib.Core.List.{List}
 use mathlib.Core.Path.{ap, ◌∙◌}
 use Prim.Native.Nat.{ℕ}
-use borrow.Author.Rules.{rules}
 use Rattle.runs.specs.Back.{masked_inv_cipher}
 use Rattle.aes.proofs.Schedule.{known}
 use Rattle.lent.specs.Started.{record_of}

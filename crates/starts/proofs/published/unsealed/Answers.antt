@@ -3,7 +3,6 @@
 use mathlib.Core.List.{List}
 use mathlib.Core.Path.{◌≡◌, refl, sym, ap, ◌∙◌}
 use Prim.Native.Nat.{ℕ}
-use borrow.Author.Rules.{rules}
 use Rattle.aes.specs.Box.{inv_s_box}
 use Rattle.masks.specs.Mask.{published, one, covers_of, masked_boxes, after_rows, after_columns, constants}
 use Rattle.runs.specs.Back.{masked_inv_cipher}

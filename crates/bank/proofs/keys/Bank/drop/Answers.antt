@@ -1,13 +1,12 @@
 -- A refusal changes nothing; past it the place is cleared.
 -- Assumes nothing.
-use mathlib.Core.Path.{◌≡◌, sym, ◌∙◌}
+use mathlib.Core.Path.{◌∙◌}
 use mathlib.Core.List.{[]}
 use native.Mathlib.Omega.{arith}
-use borrow.Author.Rules.{rules}
 use Rattle.aes.proofs.Replies.{telling, refused, passed}
-use Rattle.bank.specs.Places.{loaded_at, name_checks}
+use Rattle.bank.specs.Places.{name_checks}
 use Rattle.bank.specs.Calls.{placed}
-use Rattle.bank.proofs.Admitted.{Named, named}
+use Rattle.bank.proofs.Admitted.{named}
 use Rattle.bank.proofs.keys.Bank.drop.Goals as goal
 
 pub returns-then-refusal-ne-DONE : goal.returns-then-refusal-ne-DONE

@@ -1,5 +1,4 @@
 -- Assumes nothing.
-use borrow.Author.Rules.{rules}
 use Rattle.bank.specs.Calls.{empty_bank}
 use Rattle.bank.proofs.keys.Bank.empty.Goals as goal
 

@@ -1,14 +1,12 @@
 -- A refusal changes nothing; past it the schedule stands in the first free place, under the lowest number.
 -- Assumes nothing.
-use mathlib.Core.Path.{◌≡◌, sym, ◌∙◌}
+use mathlib.Core.Path.{◌≡◌, ◌∙◌}
 use mathlib.Core.List.{[]}
 use native.Mathlib.Omega.{arith}
-use borrow.Author.Rules.{rules}
-use Rattle.aes.specs.Byte.{place}
 use Rattle.aes.proofs.Replies.{telling, refused, passed}
 use Rattle.bank.specs.Places.{tag, lowest, load_checks}
 use Rattle.bank.specs.Calls.{placed}
-use Rattle.bank.proofs.Admitted.{Admitted, admitted}
+use Rattle.bank.proofs.Admitted.{admitted}
 use Rattle.bank.proofs.keys.Bank.load.Goals as goal
 
 pub returns-then-refusal-ne-DONE : goal.returns-then-refusal-ne-DONE

@@ -1,12 +1,11 @@
 -- A refusal writes nothing; past it runs the schedule that was found.
 -- Assumes nothing.
-use mathlib.Core.Path.{◌≡◌, sym, ◌∙◌}
+use mathlib.Core.Path.{◌∙◌}
 use native.Mathlib.Omega.{arith}
-use borrow.Author.Rules.{rules}
 use Rattle.aes.proofs.Replies.{telling, refused, passed}
-use Rattle.bank.specs.Places.{loaded_at, name_checks}
+use Rattle.bank.specs.Places.{name_checks}
 use Rattle.bank.specs.Calls.{block_checks}
-use Rattle.bank.proofs.Admitted.{Named, named}
+use Rattle.bank.proofs.Admitted.{named}
 use Rattle.bank.proofs.keys.Bank.run.Goals as goal
 
 pub returns-then-refusal-ne-DONE : goal.returns-then-refusal-ne-DONE

@@ -1,7 +1,6 @@
 -- Sixteen bytes are all of sixteen.
 -- Assumes nothing.
 use mathlib.Core.Path.{◌∙◌}
-use borrow.Author.Rules.{rules}
 use Rattle.lent.proofs.Whole.{all_sixteen}
 use Rattle.lent.proofs.given.Block.lent.Goals as goal
 

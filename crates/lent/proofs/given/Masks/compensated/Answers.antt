@@ -1,7 +1,6 @@
 -- At the offsets of 0 they stay.
 -- Assumes nothing.
 use mathlib.Core.Path.{sym, ap, ◌∙◌}
-use borrow.Author.Rules.{rules}
 use Rattle.masks.specs.Mask.{compensation, constants, constants_of}
 use Rattle.masks.proofs.Rows.{constants-covered}
 use Rattle.lent.proofs.given.Masks.compensated.Goals as goal

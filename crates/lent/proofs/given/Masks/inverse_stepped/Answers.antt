@@ -1,7 +1,6 @@
 -- Where the step is 1 they stay.
 -- Assumes nothing.
 use mathlib.Core.Path.{sym, ap, ◌∙◌}
-use borrow.Author.Rules.{rules}
 use Rattle.aes.specs.Box.{inv_s_box}
 use Rattle.masks.specs.Mask.{masked_boxes}
 use Rattle.lent.proofs.given.Masks.inverse_stepped.Goals as goal

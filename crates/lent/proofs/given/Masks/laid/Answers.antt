@@ -1,7 +1,6 @@
 -- At the offsets of 0 they stay.
 -- Assumes nothing.
 use mathlib.Core.Path.{sym, ap, ◌∙◌}
-use borrow.Author.Rules.{rules}
 use Rattle.masks.specs.Mask.{covers_of}
 use Rattle.masks.specs.Order.{places_of}
 use Rattle.lent.proofs.given.Masks.laid.Goals as goal

@@ -1,17 +1,12 @@
 -- Each turn passes one offset more that is in range.
 -- Assumes nothing.
-use mathlib.Core.Path.{◌≡◌, refl}
+use mathlib.Core.Path.{◌≡◌}
 use mathlib.Core.Bool.{true}
-use mathlib.Core.List.{List}
-use Prim.Native.Nat.{ℕ, ◌≤◌, ◌-◌}
-use borrow.Author.Rules.{rules}
-use borrow.Author.Tests.{le-leb, lt-leb}
+use Prim.Native.Nat.{◌≤◌, ◌-◌}
 use lib.Dec.{leb}
 use lib.ListN.{length}
 use Rattle.aes.specs.Byte.{below}
 use Rattle.aes.specs.State.{at}
-use Rattle.aes.proofs.Below.{below_more, below_not}
-use Rattle.masks.proofs.Row.{ended}
 use Rattle.masked.proofs.calls.chosen.offsets_refusal.Given as goal
 
 abbrev pub invariant-loop-k : goal.invariant-loop-k

@@ -1,8 +1,7 @@
 -- The step, and then the form.
 -- Assumes nothing.
 use mathlib.Core.Path.{sym, ◌∙◌}
-use borrow.Author.Rules.{rules}
-use borrow.Author.Tests.{eq-eqb, ne_eqb, not-true, not-false}
+use borrow.Author.Tests.{eq-eqb, ne_eqb}
 use Rattle.masked.proofs.calls.chosen.refusal.Goals as goal
 
 pub returns-then-not-taken : goal.returns-then-not-taken

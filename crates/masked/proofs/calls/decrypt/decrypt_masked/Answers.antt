@@ -2,7 +2,6 @@
 -- Assumes nothing.
 use mathlib.Core.List.{List, []}
 use Prim.Native.Nat.{ℕ}
-use borrow.Author.Rules.{rules}
 use Rattle.aes.specs.Key.{rounds_of}
 use Rattle.aes.proofs.Replies.{refused}
 use Rattle.runs.specs.Back.{masked_inv_cipher}

@@ -3,7 +3,6 @@
 use mathlib.Core.List.{List, []}
 use mathlib.Core.Path.{◌≡◌, ap, ◌∙◌}
 use Prim.Native.Nat.{ℕ}
-use borrow.Author.Rules.{rules}
 use Rattle.aes.specs.Reply.{Check, refusal}
 use Rattle.aes.specs.Key.{rounds_of}
 use Rattle.aes.proofs.Replies.{telling, refused, passed}

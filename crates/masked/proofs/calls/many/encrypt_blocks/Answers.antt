@@ -2,7 +2,6 @@
 -- Assumes nothing.
 use mathlib.Core.List.{[]}
 use mathlib.Core.Path.{◌∙◌}
-use borrow.Author.Rules.{rules}
 use Rattle.aes.proofs.Replies.{telling, refused, passed}
 use Rattle.masked.specs.Calls.{blocks_checks}
 use Rattle.masked.proofs.Batch.{passed_blocks, as_single}

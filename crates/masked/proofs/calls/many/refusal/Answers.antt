@@ -1,6 +1,5 @@
 -- The checks in their order.
 -- Assumes nothing.
-use borrow.Author.Rules.{rules}
 use borrow.Author.Tests.{eq-eqb, ne_eqb, le-leb, lt-leb}
 use lib.ListN.{length}
 use Rattle.aes.proofs.Schedule.{unscheduled, counted}

@@ -3,7 +3,6 @@
 use mathlib.Core.List.{List, []}
 use mathlib.Core.Path.{ap, ◌∙◌}
 use Prim.Native.Nat.{ℕ}
-use borrow.Author.Rules.{rules}
 use Rattle.aes.proofs.Replies.{refused}
 use Rattle.masks.specs.Mask.{published}
 use Rattle.lent.specs.Started.{record_of}

@@ -2,7 +2,6 @@
 -- Assumes nothing.
 use mathlib.Core.Path.{sym, ◌∙◌}
 use Prim.Native.Nat.{◌+◌, ◌*◌, ◌%◌}
-use borrow.Author.Rules.{rules}
 use Rattle.aes.specs.Byte.{table}
 use Rattle.aes.specs.State.{at}
 use Rattle.aes.specs.Key.{round_key}

@@ -2,16 +2,14 @@
 -- Assumes nothing.
 use mathlib.Core.Path.{◌≡◌, refl, sym, ap, ◌∙◌}
 use mathlib.Core.List.{List}
-use Prim.Native.Nat.{ℕ, ◌+◌, ◌-◌, ◌*◌, ◌%◌, ◌≤◌, ◌<◌}
+use Prim.Native.Nat.{ℕ, ◌+◌, ◌*◌, ◌%◌, ◌≤◌, ◌<◌}
 use native.Mathlib.Nat.{add-zero}
 use native.Mathlib.Omega.{arith}
-use borrow.Author.Rules.{rules}
 use lib.Dec.{lit≤}
-use lib.ListN.{length, length-set}
+use lib.ListN.{length-set}
 use Rattle.aes.specs.State.{at}
-use Rattle.masks.specs.Mask.{twice, mask}
 use Rattle.masks.proofs.Row.{one_more}
-use Rattle.masks.proofs.Rows.{Down, down_none, down_more, down_all, covers_bytes, cover_is}
+use Rattle.masks.proofs.Rows.{down_none, down_more, down_all, covers_bytes, cover_is}
 use Rattle.masks.proofs.label.Offsets.covers.Goals as goal
 
 pub loop-i-init : goal.loop-i-init

@@ -1,17 +1,11 @@
 -- Each turn of the inner loop fills one more mask of a column, and each of the outer one a column.
 -- Assumes nothing.
-use mathlib.Core.Path.{◌≡◌, refl, sym, ap, ◌∙◌}
+use mathlib.Core.Path.{◌≡◌}
 use mathlib.Core.List.{List}
-use Prim.Native.Nat.{ℕ, ◌+◌, ◌-◌, ◌*◌, ◌%◌, ◌≤◌, ◌<◌}
-use native.Mathlib.Nat.{add-zero}
-use native.Mathlib.Omega.{arith}
-use borrow.Author.Rules.{rules}
-use lib.Dec.{lit≤}
-use lib.ListN.{length, length-set}
-use Rattle.aes.specs.State.{at}
+use Prim.Native.Nat.{ℕ, ◌+◌, ◌-◌, ◌*◌, ◌≤◌}
+use lib.ListN.{length}
 use Rattle.masks.specs.Mask.{twice, mask}
-use Rattle.masks.proofs.Row.{one_more}
-use Rattle.masks.proofs.Rows.{Down, down_none, down_more, down_all, covers_bytes, cover_is}
+use Rattle.masks.proofs.Rows.{Down}
 use Rattle.masks.proofs.label.Offsets.covers.Given as goal
 
 abbrev pub Filled : List ℕ → List ℕ → ℕ → List ℕ → Type 0

@@ -1,17 +1,9 @@
 -- Each turn of the inner loop fills one more place, and each of the outer one a row.
 -- Assumes nothing.
-use mathlib.Core.Path.{◌≡◌, sym, ◌∙◌}
-use Prim.Native.Nat.{ℕ, ◌+◌, ◌-◌, ◌*◌, ◌≤◌, ◌<◌}
-use native.Mathlib.Nat.{add-zero}
-use native.Mathlib.Omega.{arith}
-use borrow.Author.Rules.{rules}
-use lib.Dec.{lit≤}
-use Rattle.aes.specs.Byte.{table}
-use Rattle.aes.proofs.Fill.{Filled, filled_none, filled_more, filled_all}
+use Prim.Native.Nat.{◌+◌, ◌-◌, ◌*◌, ◌≤◌}
+use Rattle.aes.proofs.Fill.{Filled}
 use Rattle.masks.specs.Order.{boxes_at}
-use Rattle.masks.proofs.Row.{one_more}
 use Rattle.masks.proofs.Columns.{row_byte}
-use Rattle.masks.proofs.Rows.{places_bytes, place_is}
 use Rattle.masks.proofs.label.Offsets.in_rows.Given as goal
 
 abbrev pub invariant-loop-i : goal.invariant-loop-i

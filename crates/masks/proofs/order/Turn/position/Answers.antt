@@ -1,7 +1,6 @@
 -- The entry of the list, which is a position.
 -- Assumes nothing.
 use mathlib.Core.Path.{◌≡◌, ◌∙◌}
-use borrow.Author.Rules.{rules}
 use Rattle.aes.specs.State.{at}
 use Rattle.masks.specs.Order.{box_order}
 use Rattle.masks.proofs.Ordered.{order_below}

@@ -1,6 +1,5 @@
 -- The round, beside the last.
 -- Assumes nothing.
-use borrow.Author.Rules.{rules}
 use Rattle.runs.proofs.steps.Covered.finished.Goals as goal
 
 pub returns : goal.returns

@@ -1,6 +1,5 @@
 -- The round, beside the first.
 -- Assumes nothing.
-use borrow.Author.Rules.{rules}
 use Rattle.runs.proofs.steps.Covered.opened.Goals as goal
 
 pub returns : goal.returns
