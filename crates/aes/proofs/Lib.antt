@@ -2,7 +2,6 @@ pub mod Xor
 pub mod Listed
 pub mod Below
 pub mod Fill
-pub mod Products
 pub mod FieldLaws
 pub mod Powers
 pub mod Inverses

@@ -40,12 +40,3 @@ logarithm b = place b (table power 255)
 
 abbrev pub logarithms : List ℕ
 logarithms = table (λ k. logarithm (k + 1)) 255
-
--- b times x, where polynomials have the bits 0 to k: the modulus m, whose bit k + 1 is set, is taken away where that has left them
-abbrev pub double_by : ℕ → ℕ → ℕ → ℕ
-double_by m k b = (m * bit b k) ⊕ (b * 2)
-
--- the sum of b, its double, the double of that, .. over those of the n low bits of c that are set
-unfoldable pub times_by : (ℕ → ℕ) → ℕ → ℕ → ℕ → ℕ
-times_by double zero b c = 0
-times_by double (suc n) b c = (b * (c % 2)) ⊕ times_by double n (double b) (c / 2)

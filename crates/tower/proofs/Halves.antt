@@ -5,11 +5,10 @@ use Prim.Native.Nat.{ℕ, ◌/◌, ◌<◌}
 use native.Mathlib.Omega.{arith}
 use lib.Bits.{xor_lt}
 use Rattle.aes.specs.Byte.{◌⊕◌, table}
-use Rattle.aes.specs.Field.{times_by}
 use Rattle.aes.proofs.Xor.{sums, xor_self}
 use Rattle.aes.proofs.Listed.{agree}
-use Rattle.aes.proofs.Products.{double_xor, times_xor_left, times_xor_right, times_zero, times_below, times_comm}
-use Rattle.tower.specs.Tower.{half_modulus, double_half, constant, ◌⊗◌, inverse_half, norm, tinv, covered_norm, covered_high, covered_low}
+use Rattle.tower.proofs.Products.{double_xor, times_xor_left, times_xor_right, times_zero, times_below, times_comm}
+use Rattle.tower.specs.Tower.{times_by, half_modulus, double_half, constant, ◌⊗◌, inverse_half, norm, tinv, covered_norm, covered_high, covered_low}
 
 double_keeps : (a b : ℕ) → double_half (a ⊕ b) ≡ double_half a ⊕ double_half b
 unfolding double_half

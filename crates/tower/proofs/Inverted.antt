@@ -6,13 +6,13 @@ use native.Mathlib.Numerals.{add-one}
 use native.Mathlib.Omega.{arith}
 use lib.Bits.{xor_shr, xor_mod}
 use Rattle.aes.specs.Byte.{◌⊕◌, table}
-use Rattle.aes.specs.Field.{times, times_by, x_times, ◌•◌, inverse}
+use Rattle.aes.specs.Field.{times, x_times, ◌•◌, inverse}
 use Rattle.aes.specs.Box.{affine, s_box}
 use Rattle.aes.proofs.Xor.{sums, xor_byte}
 use Rattle.aes.proofs.Listed.{agree}
 use Rattle.aes.proofs.Inverses.{inverse_only, inverse_zero, inverse_byte}
 use Rattle.beside.specs.Inversion.{masked_inverse}
-use Rattle.tower.specs.Tower.{double_half, constant, ◌⊗◌, inverse_half, high, low, joined, norm, inverse_pair, tower_inverse, to_tower, from_tower, tinv, covered_norm, covered_high, covered_low, covered_pair, covered_inverse, linear}
+use Rattle.tower.specs.Tower.{times_by, double_half, constant, ◌⊗◌, inverse_half, high, low, joined, norm, inverse_pair, tower_inverse, to_tower, from_tower, tinv, covered_norm, covered_high, covered_low, covered_pair, covered_inverse, linear}
 use Rattle.tower.proofs.Halves.{half_half, half_xor, inverse_half_lem, norm_half, norm-covered, high-covered, low-covered}
 use Rattle.tower.proofs.Isomorphism.{to_tower_sums, from_tower_sums, back_and_forth, tower_byte, joined_xor, linear_sums}
 

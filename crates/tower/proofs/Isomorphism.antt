@@ -6,12 +6,12 @@ use native.Mathlib.Nat.{mul_comm}
 use native.Mathlib.Omega.{arith}
 use lib.Bits.{xor_shr, xor_mod, xor_block}
 use Rattle.aes.specs.Byte.{◌⊕◌, from_bits, table}
-use Rattle.aes.specs.Field.{times, times_by, x_times, ◌•◌}
+use Rattle.aes.specs.Field.{times, x_times, ◌•◌}
 use Rattle.aes.specs.Box.{affine}
 use Rattle.aes.proofs.Xor.{sums}
 use Rattle.aes.proofs.Listed.{agree}
 use Rattle.aes.proofs.FieldLaws.{product_xor_left, product_xor_right, product_zero_left, product_zero_right, product_byte}
-use Rattle.tower.specs.Tower.{double_half, constant, ◌⊗◌, high, low, joined, tower_times, to_tower, from_tower, linear}
+use Rattle.tower.specs.Tower.{times_by, double_half, constant, ◌⊗◌, high, low, joined, tower_times, to_tower, from_tower, linear}
 use Rattle.tower.proofs.Halves.{half_left, half_right, half_zero_left, half_zero_right, half_half, half_xor}
 use Rattle.tower.proofs.Linear.{Linear, after, spread_by, single_byte, by_basis, by_bits}
 

@@ -1,3 +1,4 @@
+pub mod Products
 pub mod Halves
 pub mod Linear
 pub mod Isomorphism

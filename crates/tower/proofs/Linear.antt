@@ -8,7 +8,7 @@ use lib.Dec.{lit<}
 use Rattle.aes.specs.Byte.{◌⊕◌, bit, table}
 use Rattle.aes.proofs.Xor.{mod_two, sums, xor_byte}
 use Rattle.aes.proofs.Listed.{agree}
-use Rattle.aes.proofs.Products.{bit_through, bit_left, bit_below}
+use Rattle.tower.proofs.Products.{bit_through, bit_left, bit_below}
 
 pub record Linear (f : ℕ → ℕ) : Type 0 where
   pub zero_at : f 0 ≡ 0

@@ -1,11 +1,19 @@
 -- The tower of document 000, 2.3.8: a byte as a two-term polynomial h x + l over halves of four bits, h the higher half of the byte.
 -- Assumes nothing.
-use Rattle.std.specs.Prelude.{List, ℕ, ◌+◌, ◌*◌, ◌/◌, ◌%◌}
+use Rattle.std.specs.Prelude.{List, ℕ, zero, suc, ◌+◌, ◌*◌, ◌/◌, ◌%◌}
 use Rattle.aes.specs.Byte.{◌⊕◌, bit, table}
-use Rattle.aes.specs.Field.{double_by, times_by}
 use Rattle.aes.specs.Box.{affine}
 use Rattle.aes.specs.State.{at}
 use Rattle.masks.specs.Mask.{published}
+
+-- b times x, where polynomials have the bits 0 to k: the modulus m, whose bit k + 1 is set, is taken away where that has left them
+abbrev pub double_by : ℕ → ℕ → ℕ → ℕ
+double_by m k b = (m * bit b k) ⊕ (b * 2)
+
+-- the sum of b, its double, the double of that, .. over those of the n low bits of c that are set
+unfoldable pub times_by : (ℕ → ℕ) → ℕ → ℕ → ℕ → ℕ
+times_by double zero b c = 0
+times_by double (suc n) b c = (b * (c % 2)) ⊕ times_by double n (double b) (c / 2)
 
 -- the field of halves, modulo x^4 + x + 1 (4.4)
 abbrev pub half_modulus : ℕ

@@ -2,8 +2,7 @@
 -- Assumes nothing.
 use mathlib.Core.Path.{refl}
 use Rattle.aes.specs.Byte.{table}
-use Rattle.aes.specs.Field.{times_by}
-use Rattle.tower.specs.Tower.{double_half, ◌⊗◌, inverse_half}
+use Rattle.tower.specs.Tower.{times_by, double_half, ◌⊗◌, inverse_half}
 use Rattle.tower.proofs.tables.inverses.Goals as goal
 
 pub returns : goal.returns

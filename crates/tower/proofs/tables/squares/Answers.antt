@@ -2,8 +2,7 @@
 -- Assumes nothing.
 use mathlib.Core.Path.{refl}
 use Rattle.aes.specs.Byte.{table}
-use Rattle.aes.specs.Field.{times_by}
-use Rattle.tower.specs.Tower.{double_half, constant, ◌⊗◌}
+use Rattle.tower.specs.Tower.{times_by, double_half, constant, ◌⊗◌}
 use Rattle.tower.proofs.tables.squares.Goals as goal
 
 pub returns : goal.returns

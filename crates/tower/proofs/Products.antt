@@ -7,7 +7,7 @@ use native.Mathlib.Omega.{arith}
 use lib.Bits.{xor_shr, xor_mod, xor_block, xor_lt}
 use lib.Dec.{lit<}
 use Rattle.aes.specs.Byte.{◌⊕◌}
-use Rattle.aes.specs.Field.{double_by, times_by}
+use Rattle.tower.specs.Tower.{double_by, times_by}
 use Rattle.aes.proofs.Xor.{mod_two, sums, xor_self, xor_zero}
 
 -- A bit p passes through what keeps 0, and spreads over a sum on either side of it.
