@@ -179,7 +179,7 @@ extern "C" {
  * schedule, which must have the length that goes with the key's, SLIPGREASE_SCHEDULE_BYTES_OF(key_len).
  * Reads key, 16, 24 or 32 bytes. Writes schedule_out, 176, 208 or 240 bytes.
  * Refusals: 1 KEY_LENGTH, 2 SCHEDULE_LENGTH.
- * Stack: 1,544 bytes.
+ * Stack: 1,560 bytes.
  */
 uint8_t slipgrease_expand_key(
     const uint8_t *key, size_t key_len,
@@ -190,7 +190,7 @@ uint8_t slipgrease_expand_key(
  * are taken as a schedule.
  * Reads schedule, 176, 208 or 240 bytes, and input, 16 bytes. Writes output_out, 16 bytes.
  * Refusals: 2 SCHEDULE_LENGTH, 3 INPUT_LENGTH, 4 OUTPUT_LENGTH.
- * Stack: 368 bytes.
+ * Stack: 360 bytes.
  */
 uint8_t slipgrease_encrypt(
     const uint8_t *schedule, size_t schedule_len,
@@ -202,7 +202,7 @@ uint8_t slipgrease_encrypt(
  * bytes that is, and is undone by it.
  * Reads schedule, 176, 208 or 240 bytes, and input, 16 bytes. Writes output_out, 16 bytes.
  * Refusals: 2 SCHEDULE_LENGTH, 3 INPUT_LENGTH, 4 OUTPUT_LENGTH.
- * Stack: 368 bytes.
+ * Stack: 360 bytes.
  */
 uint8_t slipgrease_decrypt(
     const uint8_t *schedule, size_t schedule_len,
@@ -267,7 +267,7 @@ static inline void slipgrease_one_offset(uint8_t record[SLIPGREASE_BYTE_OFFSETS]
  * Encrypts one block under the published masks, with step 1 by stored boxes; those of another step are worked out first.
  * Reads schedule, 176, 208 or 240 bytes, input, 16 bytes, and offsets, 16 bytes. Writes output_out, 16 bytes.
  * Refusals: 2 SCHEDULE_LENGTH, 3 INPUT_LENGTH, 4 OUTPUT_LENGTH, 24 OFFSET_PER_BYTE, 6 OFFSET_RANGE, 15 STEP_WRONG, 7 FORM_UNKNOWN.
- * Stack: 9,336 bytes, and 5,720 with step 1.
+ * Stack: 9,944 bytes, and 5,744 with step 1.
  */
 uint8_t slipgrease_encrypt_published(
     const uint8_t *schedule, size_t schedule_len,
@@ -282,7 +282,7 @@ uint8_t slipgrease_encrypt_published(
  * offset is wrong, all blocks are refused. With no blocks at all the call is done, and nothing is written.
  * Reads schedule, 176, 208 or 240 bytes, input, 16 bytes a block, and offsets, 1 byte a block. Writes output_out, 16 bytes a block.
  * Refusals: 2 SCHEDULE_LENGTH, 3 INPUT_LENGTH, 4 OUTPUT_LENGTH, 14 OFFSETS_LENGTH, 6 OFFSET_RANGE, 15 STEP_WRONG, 7 FORM_UNKNOWN.
- * Stack: 9,816 bytes, and 5,512 with step 1.
+ * Stack: 9,896 bytes, and 5,696 with step 1.
  */
 uint8_t slipgrease_encrypt_blocks(
     const uint8_t *schedule, size_t schedule_len,
@@ -295,7 +295,7 @@ uint8_t slipgrease_encrypt_blocks(
  * Encrypts one block under any sixteen masks, fit or not; their boxes are worked out first.
  * Reads schedule, 176, 208 or 240 bytes, input, 16 bytes, masks, 16 bytes, and offsets, 16 bytes. Writes output_out, 16 bytes.
  * Refusals: 2 SCHEDULE_LENGTH, 3 INPUT_LENGTH, 4 OUTPUT_LENGTH, 5 MASKS_LENGTH, 24 OFFSET_PER_BYTE, 6 OFFSET_RANGE, 15 STEP_WRONG, 7 FORM_UNKNOWN.
- * Stack: 9,240 bytes.
+ * Stack: 9,928 bytes.
  */
 uint8_t slipgrease_encrypt_masked(
     const uint8_t *schedule, size_t schedule_len,
@@ -312,7 +312,7 @@ uint8_t slipgrease_encrypt_masked(
  * state 5 and state 6: here too, each pair xored is a round key, 0 and 1.
  * Reads schedule, 176, 208 or 240 bytes, input, 16 bytes, masks, 16 bytes, and offsets, 16 bytes. Writes record_out, 16 bytes a state.
  * Refusals: 2 SCHEDULE_LENGTH, 3 INPUT_LENGTH, 5 MASKS_LENGTH, 24 OFFSET_PER_BYTE, 6 OFFSET_RANGE, 15 STEP_WRONG, 8 RECORD_LENGTH.
- * Stack: 9,832 bytes.
+ * Stack: 9,992 bytes.
  */
 uint8_t slipgrease_record_masked(
     const uint8_t *schedule, size_t schedule_len,
@@ -326,7 +326,7 @@ uint8_t slipgrease_record_masked(
  * Decrypts one block under the published masks, with step 1 by stored boxes; those of another step are worked out first.
  * Reads schedule, 176, 208 or 240 bytes, input, 16 bytes, and offsets, 16 bytes. Writes output_out, 16 bytes.
  * Refusals: 2 SCHEDULE_LENGTH, 3 INPUT_LENGTH, 4 OUTPUT_LENGTH, 24 OFFSET_PER_BYTE, 6 OFFSET_RANGE, 15 STEP_WRONG.
- * Stack: 9,592 bytes, and 6,000 with step 1.
+ * Stack: 10,216 bytes, and 6,000 with step 1.
  */
 uint8_t slipgrease_decrypt_published(
     const uint8_t *schedule, size_t schedule_len,
@@ -339,7 +339,7 @@ uint8_t slipgrease_decrypt_published(
  * Decrypts one block under any sixteen masks, fit or not; their boxes are worked out first.
  * Reads schedule, 176, 208 or 240 bytes, input, 16 bytes, masks, 16 bytes, and offsets, 16 bytes. Writes output_out, 16 bytes.
  * Refusals: 2 SCHEDULE_LENGTH, 3 INPUT_LENGTH, 4 OUTPUT_LENGTH, 5 MASKS_LENGTH, 24 OFFSET_PER_BYTE, 6 OFFSET_RANGE, 15 STEP_WRONG.
- * Stack: 9,496 bytes.
+ * Stack: 10,184 bytes.
  */
 uint8_t slipgrease_decrypt_masked(
     const uint8_t *schedule, size_t schedule_len,
@@ -369,7 +369,7 @@ uint8_t slipgrease_decrypt_masked(
  * from which all others follow.
  * Reads schedule, 176, 208 or 240 bytes, input, 16 bytes, masks, 16 bytes, and offsets, 16 bytes. Writes record_out, 16 bytes a state.
  * Refusals: 2 SCHEDULE_LENGTH, 3 INPUT_LENGTH, 5 MASKS_LENGTH, 24 OFFSET_PER_BYTE, 6 OFFSET_RANGE, 15 STEP_WRONG, 8 RECORD_LENGTH.
- * Stack: 10,168 bytes.
+ * Stack: 10,280 bytes.
  */
 uint8_t slipgrease_record_masked_decryption(
     const uint8_t *schedule, size_t schedule_len,
@@ -385,7 +385,7 @@ uint8_t slipgrease_record_masked_decryption(
  * step is 0. The first SHEET_LENGTH is for fewer than 5 bytes, the second for a length that is not that of the version.
  * Reads sheet, 21 or 22 bytes. Writes masks_out, 16 bytes.
  * Refusals: 11 SHEET_LENGTH, 12 MARK_WRONG, 13 VERSION_UNKNOWN, 11 SHEET_LENGTH, 15 STEP_WRONG, 5 MASKS_LENGTH.
- * Stack: 16 bytes.
+ * Stack: 8 bytes.
  */
 uint16_t slipgrease_read_sheet(
     const uint8_t *sheet, size_t sheet_len,
@@ -416,7 +416,7 @@ uint8_t slipgrease_write_sheet(
  * Wraps key data: 2.2.1 of the RFC.
  * Reads schedule, 240 bytes, and key_data, 16, 24 .. 256 bytes. Writes wrapped_out, 8 bytes more than key_data.
  * Refusals: 2 SCHEDULE_LENGTH, 16 KEY_DATA_LENGTH, 17 WRAPPED_LENGTH.
- * Stack: 480 bytes.
+ * Stack: 456 bytes.
  */
 uint8_t slipgrease_wrap(
     const uint8_t *schedule, size_t schedule_len,
@@ -429,7 +429,7 @@ uint8_t slipgrease_wrap(
  * data was changed, or was wrapped under another key. Then no byte of key_data_out has changed.
  * Reads schedule, 240 bytes, and wrapped, 8 bytes more than key_data. Writes key_data_out, 16, 24 .. 256 bytes.
  * Refusals: 2 SCHEDULE_LENGTH, 16 KEY_DATA_LENGTH, 17 WRAPPED_LENGTH, 18 INTEGRITY.
- * Stack: 800 bytes.
+ * Stack: 728 bytes.
  */
 uint8_t slipgrease_unwrap(
     const uint8_t *schedule, size_t schedule_len,
@@ -440,7 +440,7 @@ uint8_t slipgrease_unwrap(
  * Wraps key data by the module's engine, and writes what slipgrease_wrap does.
  * Reads schedule, 240 bytes, and key_data, 16, 24 .. 256 bytes. Writes wrapped_out, 8 bytes more than key_data.
  * Refusals: 2 SCHEDULE_LENGTH, 6 OFFSET_RANGE, 16 KEY_DATA_LENGTH, 17 WRAPPED_LENGTH.
- * Stack: 5,768 bytes.
+ * Stack: 5,760 bytes.
  */
 uint8_t slipgrease_wrap_masked(
     const uint8_t *schedule, size_t schedule_len,
@@ -452,7 +452,7 @@ uint8_t slipgrease_wrap_masked(
  * Unwraps key data by the module's engine, and writes and refuses what slipgrease_unwrap does.
  * Reads schedule, 240 bytes, and wrapped, 8 bytes more than key_data. Writes key_data_out, 16, 24 .. 256 bytes.
  * Refusals: 2 SCHEDULE_LENGTH, 6 OFFSET_RANGE, 16 KEY_DATA_LENGTH, 17 WRAPPED_LENGTH, 18 INTEGRITY.
- * Stack: 6,336 bytes.
+ * Stack: 6,288 bytes.
  */
 uint8_t slipgrease_unwrap_masked(
     const uint8_t *schedule, size_t schedule_len,
@@ -488,7 +488,7 @@ uint8_t slipgrease_unwrap_masked(
  * field is not 183 under code 10, or above 182 under code 11; the scrambling bits are not 00.
  * Reads packet, 188 bytes, and pipes, 3,486 bytes. Writes packet_out, 188 bytes.
  * Refusals: 19 PACKET_LENGTH, 20 SYNC_LOST, 22 PIPES_WRONG, 21 FIELD_WRONG, 23 BITS_WRONG.
- * Stack: 560 bytes.
+ * Stack: 520 bytes.
  */
 uint8_t slipgrease_scramble(
     const uint8_t *packet, size_t packet_len,
@@ -502,7 +502,7 @@ uint8_t slipgrease_scramble(
  * took. FIELD_WRONG is as there; BITS_WRONG is for bits 01, and for 10 or 11 with a payload shorter than 16 bytes, or with none.
  * Reads packet, 188 bytes, and pipes, 3,486 bytes. Writes packet_out, 188 bytes.
  * Refusals: 19 PACKET_LENGTH, 20 SYNC_LOST, 22 PIPES_WRONG, 21 FIELD_WRONG, 23 BITS_WRONG.
- * Stack: 560 bytes.
+ * Stack: 520 bytes.
  */
 uint8_t slipgrease_descramble(
     const uint8_t *packet, size_t packet_len,
@@ -516,7 +516,7 @@ uint8_t slipgrease_descramble(
  * sixteen masks, otherwise value 0. Answers reply * 256 + value; with a refusal the value is 0.
  * Reads masks, 16 bytes.
  * Refusals: 5 MASKS_LENGTH.
- * Stack: 72 bytes.
+ * Stack: 56 bytes.
  */
 uint16_t slipgrease_fitness(const uint8_t *masks, size_t masks_len) SLIPGREASE_CHECKED;
 
@@ -542,7 +542,7 @@ uint16_t slipgrease_mask_count(
  * gives the standard block. Of a standard block it makes what was stored, so doing it twice gives the input back.
  * Reads input, 16 bytes. Writes output_out, 16 bytes.
  * Refusals: 3 INPUT_LENGTH, 4 OUTPUT_LENGTH, 6 OFFSET_RANGE.
- * Stack: 104 bytes.
+ * Stack: 48 bytes.
  */
 uint8_t slipgrease_convert(
     const uint8_t *input, size_t input_len,

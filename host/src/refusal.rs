@@ -238,18 +238,28 @@ pub fn sort_reply(number: u8) -> Option<Fault> {
 mod tests {
     use super::REFUSALS;
 
-    /// The library's own list, from the sources beside this crate: `pub const KEY_LENGTH: u8 = 1;`.
+    /// The library's own list, from the sources beside this crate: `KeyLength = 1,` is KEY_LENGTH there.
     #[test]
     fn numbers_and_names_are_the_library_s() {
         let source = include_str!("../../crates/aes/src/reply.rt");
         let listed: Vec<(String, u8)> = source
             .lines()
-            .filter_map(|line| line.strip_prefix("pub const ")?.strip_suffix(';')?.split_once(": u8 = "))
-            .map(|(name, number)| (name.to_string(), number.parse().unwrap()))
+            .filter_map(|line| line.strip_prefix("    ")?.strip_suffix(',')?.split_once(" = "))
+            .map(|(name, number)| (in_capitals(name), number.parse().unwrap()))
             .collect();
-        let mut mine = vec![("DONE".to_string(), 0)];
-        mine.extend(REFUSALS.iter().map(|row| (row.1.to_string(), row.0.number())));
+        let mine: Vec<(String, u8)> = REFUSALS.iter().map(|row| (row.1.to_string(), row.0.number())).collect();
         assert_eq!(mine, listed);
+    }
+
+    fn in_capitals(name: &str) -> String {
+        let mut words = String::new();
+        for letter in name.chars() {
+            if letter.is_uppercase() && !words.is_empty() {
+                words.push('_');
+            }
+            words.push(letter.to_ascii_uppercase());
+        }
+        words
     }
 
     #[test]

@@ -5,8 +5,9 @@ use mathlib.Core.List.{List}
 use Prim.Native.Nat.{ℕ, ◌+◌, ◌<◌, ◌≤◌}
 use native.Mathlib.Omega.{arith}
 use native.Mathlib.Decide.{dec_lt}
-use lib.ListN.{length, get_or, set, length-set}
-use lib.Seq.{get_or-set_same, get_or-set_other, ext_get_or}
+use lib.ListN.{length, get_or, set, take, drop, length-set, length-drop}
+use Rattle.std.proofs.Common.{get_or-drop}
+use lib.Seq.{get_or-set_same, get_or-set_other, ext_get_or, length-take-le, get_or-take}
 use Rattle.aes.specs.Byte.{listed, table}
 use Rattle.aes.proofs.Listed.{table_at, table-length}
 
@@ -38,3 +39,9 @@ filled_all {f} {n} {i} {r} p h =
 -- filled from another list, it is that list
 pub filled_copy : {s r : List ℕ} {i : ℕ} → Filled (λ k. get_or s k 0) (length s) i r → length s ≤ i → r ≡ s
 filled_copy {s} {r} {i} p h = ext_get_or 0 r s p.room (λ k lt. p.so_far k (omega (arith, p.room)))
+
+-- a part of a list, by its places
+pub part_listed : (xs : List ℕ) (a n : ℕ) → a + n ≤ length xs → take n (drop a xs) ≡ listed (λ k. get_or xs (a + k) 0) 0 n
+part_listed xs a n h =
+    let size : length (take n (drop a xs)) ≡ n = length-take-le n (drop a xs) (simp length-drop (omega arith)) in
+    filled_all (record { room = size; within = omega arith; so_far = λ k lt. get_or-take n (drop a xs) k 0 lt ∙ get_or-drop a xs k 0 }) (omega arith)

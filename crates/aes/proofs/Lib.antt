@@ -16,5 +16,6 @@ pub mod Part
 pub mod Schedule
 pub mod Written
 pub mod PlainRun
+pub mod Outcomes
 pub mod Unique
 pub mod Replies

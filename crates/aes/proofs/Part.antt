@@ -11,11 +11,6 @@ use lib.Seq.{take_at, length-take-le, take_all, get_or-take}
 pub holds_none : (n : ℕ) (xs : List ℕ) → length xs ≡ n → Holds n [] xs
 holds_none n xs l = record { size = l; head = refl }
 
--- p written at the beginning
-pub holds_first : (n : ℕ) (p ys rest : List ℕ) → ys ≡ p → length p + length rest ≡ n → Holds n p (ys ++ rest)
-holds_first n p ys rest same l =
-    rw same (record { size = length-append p rest ∙ l; head = take_at p rest (length p) refl })
-
 pub holds_all : (n : ℕ) (p xs : List ℕ) → Holds n p xs → length p ≡ n → xs ≡ p
 holds_all n p xs h l = sym (take_all (length p) xs (omega (arith, h.size))) ∙ h.head
 
@@ -35,9 +30,6 @@ pub back_room : {n : ℕ} {xs ys t : List ℕ} (a k : ℕ) → Room n xs → ys 
 back_room {n} {xs} {ys} {t} a k r same lk le =
     let size : length (take a xs) ≡ a = length-take-le a xs (omega (arith, r.room)) in
     rw same (record { room = simp (length-append, length-drop, size, lk) (omega (arith, r.room)) })
-
-pub within : {e m n : ℕ} → m ≡ n → e ≤ n → e ≤ m
-within l le = rw l le
 
 -- the part from a to e, the next after p, is lent and comes back as q
 pub lent : (n a e : ℕ) (p q xs ys : List ℕ)

@@ -2,8 +2,7 @@
 -- Assumes nothing.
 use mathlib.Core.Path.{◌≡◌, refl}
 use mathlib.Core.List.{List}
-use Prim.Native.Nat.{ℕ, zero, suc, ◌+◌, ◌-◌, ◌<◌}
-use native.Mathlib.Numerals.{add-one}
+use Prim.Native.Nat.{ℕ, zero, suc, ◌-◌, ◌<◌}
 use native.Mathlib.Omega.{arith}
 use Rattle.aes.specs.State.{sub_bytes, inv_sub_bytes, shift_rows, inv_shift_rows, mix_columns, inv_mix_columns, add_round_key}
 use Rattle.aes.specs.Key.{round_key}
@@ -13,9 +12,10 @@ pub rounds_none : (w s : List ℕ) → s ≡ rounds w s 0
 unfolding rounds
 rounds_none w s = refl
 
-pub rounds_more : (w s : List ℕ) (n : ℕ) → rounds w s (n + 1) ≡ add_round_key (mix_columns (shift_rows (sub_bytes (rounds w s n)))) (round_key w (n + 1))
+pub rounds_more : (w s : List ℕ) (n : ℕ) → 0 < n → rounds w s n ≡ add_round_key (mix_columns (shift_rows (sub_bytes (rounds w s (n - 1))))) (round_key w n)
 unfolding rounds
-rounds_more w s n = rw add-one
+rounds_more w s zero h = absurd (omega arith)
+rounds_more w s (suc n) h = let e : suc n - 1 ≡ n = omega arith in rw e
 
 pub inv_rounds_none : (w s : List ℕ) → inv_rounds w s 0 ≡ s
 unfolding inv_rounds

@@ -4,12 +4,12 @@ use mathlib.Core.Path.{◌≡◌, refl, sym, ap, subst, ◌∙◌}
 use mathlib.Core.Bool.{Bool, true, false, not, cond}
 use mathlib.Core.List.{List, [], ◌∷◌, ◌++◌}
 use Prim.Native.Nat.{ℕ, zero, suc, ◌+◌, ◌-◌, ◌*◌, ◌/◌, ◌≤◌, ◌<◌}
-use native.Mathlib.Nat.{div-lt_iff_lt-mul, le-div_iff_mul-le}
+use native.Mathlib.Nat.{div-lt_iff_lt-mul}
 use native.Mathlib.Omega.{arith}
 use native.Mathlib.Decide.{ℕ_discrete}
 use lib.Dec.{T}
 use borrow.Author.Tests.{eq-eqb, ne_eqb}
-use lib.ListN.{length, take, drop, length-append}
+use lib.ListN.{length, take, length-append}
 use lib.Seq.{get_or-append-add}
 use Rattle.aes.specs.State.{at}
 use Rattle.aes.specs.Key.{word_at, sum_word, temp, next_word, expanded, words, key_expansion, rounds_of}
@@ -24,9 +24,6 @@ next-length nk w i = refl
 -- which round constant: one of ten
 pub constant-below : (nk i : ℕ) → 4 ≤ nk → i < 4 * nk + 28 → i / nk < 11
 constant-below nk i h lt = (div-lt_iff_lt-mul {k = nk} {x = i} {y = 11} (omega arith)).1 (omega arith)
-
-pub constant_above : (nk i : ℕ) → 4 ≤ nk → nk ≤ i → 1 ≤ i / nk
-constant_above nk i h le = (le-div_iff_mul-le {k = nk} {x = 1} {y = i} (omega arith)).1 (omega arith)
 
 module _ (nk : ℕ) (key : List ℕ) (k : length key ≡ 4 * nk) where
   pub expanded-length : (n : ℕ) → length (expanded nk key n) ≡ 4 * nk + 4 * n
@@ -81,8 +78,8 @@ expansion_length nk key e =
     ap (λ (n : ℕ). length (expanded n key (4 * (n + 7) - n))) q ∙ expanded-length nk key e (4 * (nk + 7) - nk) ∙ omega arith
 
 -- the part that a schedule's length takes
-pub first_part : (p w : List ℕ) (k : ℕ) → Holds 240 p w → length p ≡ k → take (k - 0) (drop 0 w) ≡ p
-first_part p w k h e = let z : k - 0 ≡ length p = omega (arith, e) in rw z h.head
+pub first_part : (p w : List ℕ) (k : ℕ) → Holds 240 p w → length p ≡ k → take k w ≡ p
+first_part p w k h e = rw (← e) h.head
 
 -- what a schedule's length tells
 three : (n : ℕ) → scheduled n ≡ true → (n ≡ 176 → ⊥) → (n ≡ 208 → ⊥) → n ≡ 240

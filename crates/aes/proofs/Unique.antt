@@ -4,7 +4,7 @@
 use mathlib.Core.Path.{◌≡◌, sym, ◌∙◌}
 use mathlib.Core.List.{List}
 use Prim.Native.Nat.{ℕ}
-use Rattle.aes.specs.declared.reply.Valued.{Valued}
+use Rattle.aes.proofs.Outcomes.{told, told_value, told_rounds}
 use Rattle.aes.proofs.cipher.decrypt.Reads as decrypt
 use Rattle.aes.proofs.cipher.encrypt.Reads as encrypt
 use Rattle.aes.proofs.field.inverse.Reads as inverse
@@ -13,6 +13,7 @@ use Rattle.aes.proofs.field.multiply.Reads as multiply
 use Rattle.aes.proofs.field.power.Reads as power
 use Rattle.aes.proofs.key.expand_key.Reads as expand-key
 use Rattle.aes.proofs.record.record_plain.Reads as record-plain
+use Rattle.aes.proofs.reply.reply.Reads as reply
 use Rattle.aes.proofs.size.rounds_for.Reads as rounds-for
 use Rattle.aes.proofs.state.add.Reads as add
 use Rattle.aes.proofs.state.inv_mix_columns.Reads as inv-mix-columns
@@ -32,11 +33,6 @@ abbrev pub Unique :
 Unique {K} {Args} {Result} {Exit} Post =
     (κs : K) (args : Args κs) (exit : Exit κs) (x y : Result κs) → Post κs args x exit → Post κs args y exit → x ≡ y
 
-pub valued : (x y : Valued) (z : ℕ × ℕ) → (x.number, x.value) ≡ z → (y.number, y.value) ≡ z → x ≡ y
-valued x y z p q =
-    let e : ◌≡◌ {A = ℕ × ℕ} (x.number, x.value) (y.number, y.value) = p ∙ sym q in
-    λ i. record { number = (e i).0; value = (e i).1 }
-
 pub multiply_unique : Unique multiply.Post
 multiply_unique κs args exit x y p q = p ∙ sym q
 
@@ -44,10 +40,10 @@ pub inverse_unique : Unique inverse.Post
 inverse_unique κs args exit x y p q = p ∙ sym q
 
 pub power_unique : Unique power.Post
-power_unique κs args exit x y p q = valued x y _ p q
+power_unique κs args exit x y p q = told_value x y _ p q
 
 pub logarithm_unique : Unique logarithm.Post
-logarithm_unique κs args exit x y p q = valued x y _ p q
+logarithm_unique κs args exit x y p q = told_value x y _ p q
 
 pub powers_unique : Unique powers.Post
 powers_unique κs args exit x y p q = p ∙ sym q
@@ -76,19 +72,22 @@ both x y a b z p q =
     (λ i. (e i).0, λ i. (e i).1)
 
 pub expand_key_unique : UniqueWriting expand-key.Post (λ κs e. e.1.0.now)
-expand_key_unique κs args e f x y p q = both x y _ _ _ p q
+expand_key_unique κs args e f x y p q = told x y _ _ _ p q
+
+pub reply_unique : Unique reply.Post
+reply_unique κs args exit x y p q = p ∙ sym q
 
 pub rounds_for_unique : Unique rounds-for.Post
-rounds_for_unique κs args exit x y p q = p.0 ∙ sym q.0
+rounds_for_unique κs args exit x y p q = told_rounds x y (p.0 ∙ sym q.0) p.1 q.1
 
 pub encrypt_unique : UniqueWriting encrypt.Post (λ κs e. e.1.1.0.now)
-encrypt_unique κs args e f x y p q = both x y _ _ _ p q
+encrypt_unique κs args e f x y p q = told x y _ _ _ p q
 
 pub decrypt_unique : UniqueWriting decrypt.Post (λ κs e. e.1.1.0.now)
-decrypt_unique κs args e f x y p q = both x y _ _ _ p q
+decrypt_unique κs args e f x y p q = told x y _ _ _ p q
 
 pub record_plain_unique : UniqueWriting record-plain.Post (λ κs e. e.1.1.0.now)
-record_plain_unique κs args e f x y p q = both x y _ _ _ p q
+record_plain_unique κs args e f x y p q = told x y _ _ _ p q
 
 pub add_unique : Unique add.Post
 add_unique κs args exit x y p q = p ∙ sym q

@@ -9,4 +9,5 @@ pub mod Cipher
 pub mod Record
 pub mod Held
 pub mod Reply
+pub mod Refusal
 pub mod Calls

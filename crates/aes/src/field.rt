@@ -2,9 +2,10 @@
 ghost use Rattle.std.specs.Prelude.{◌≡◌, ◌<◌};
 ghost use Rattle.aes.specs.Field.{◌•◌, inverse, power, logarithm, logarithms};
 ghost use Rattle.aes.specs.Calls.{power_of, logarithm_of};
+ghost use Rattle.aes.specs.Refusal.{reply, value};
 
-use crate::reply::Valued;
-use crate::{reply, tables};
+use crate::reply::Refusal;
+use crate::tables;
 
 // The product. 00 has no logarithm, so its products are answered first.
 pub fn multiply(a: u8, b: u8) -> u8
@@ -35,36 +36,24 @@ pub fn inverse(b: u8) -> u8
 }
 
 // The power n of 03, where n is 0 to 254.
-pub fn power(n: u8) -> Valued
-    ensures { (result.number, result.value) ≡ power_of n }
+pub fn power(n: u8) -> Result<u8, Refusal>
+    ensures { (reply result, value result) ≡ power_of n }
 {
     if 254 < n {
-        return Valued {
-            number: reply::POWER_RANGE,
-            value: 0,
-        };
+        return Err(Refusal::PowerRange);
     }
-    Valued {
-        number: reply::DONE,
-        value: power_at(n as usize),
-    }
+    Ok(power_at(n as usize))
 }
 
 // Which power of 03 a byte is.
-pub fn logarithm(b: u8) -> Valued
-    ensures { (result.number, result.value) ≡ logarithm_of b }
+pub fn logarithm(b: u8) -> Result<u8, Refusal>
+    ensures { (reply result, value result) ≡ logarithm_of b }
 {
     if b == 0 {
-        return Valued {
-            number: reply::NO_LOGARITHM,
-            value: 0,
-        };
+        return Err(Refusal::NoLogarithm);
     }
     let logarithms = tables::logarithms();
-    Valued {
-        number: reply::DONE,
-        value: logarithms[b as usize - 1],
-    }
+    Ok(logarithms[b as usize - 1])
 }
 
 fn power_at(n: usize) -> u8
@@ -80,11 +69,5 @@ fn logarithm_in(lent: &[u8; 255], b: u8) -> usize
     requires { (0 < b) × (lent.now ≡ logarithms) }
     ensures { result ≡ logarithm b }
 {
-    wide(lent[b as usize - 1])
-}
-
-fn wide(b: u8) -> usize
-    ensures { result ≡ b }
-{
-    b as usize
+    lent[b as usize - 1] as usize
 }

@@ -8,6 +8,7 @@ mod record;
 pub mod reply;
 mod size;
 mod state;
+mod substitution;
 pub mod tables;
 mod word;
 

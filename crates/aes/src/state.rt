@@ -1,7 +1,6 @@
 // The transformations of a state by value: sixteen bytes, column by column.
 ghost use Rattle.std.specs.Prelude.{◌≡◌, ◌+◌, ◌*◌, ◌≤◌, ◌<◌, length};
 ghost use Rattle.aes.specs.State.{shift_rows, inv_shift_rows, mix_columns, inv_mix_columns, add_round_key};
-ghost use Rattle.aes.specs.Key.{round_key};
 ghost use Rattle.aes.specs.Lent.{moved, substituted};
 
 use crate::tables::entry;
@@ -24,10 +23,8 @@ pub(crate) fn substitute(s: [u8; 16], lent: &[u8; 256]) -> [u8; 16]
     ensures { result ≡ substituted lent.now s }
 {
     let mut r = [0u8; 16];
-    let mut i = 0;
-    while i < 16 {
+    for i in 0..16 {
         r[i] = entry(lent, s[i]);
-        i += 1;
     }
     r
 }
@@ -51,10 +48,8 @@ fn moved(s: [u8; 16], step: usize) -> [u8; 16]
     ensures { result ≡ moved step s }
 {
     let mut r = [0u8; 16];
-    let mut i = 0;
-    while i < 16 {
+    for i in 0..16 {
         r[i] = s[step * i % 16];
-        i += 1;
     }
     r
 }
@@ -73,16 +68,12 @@ pub fn mix_columns(s: [u8; 16]) -> [u8; 16]
 pub fn inv_mix_columns(s: [u8; 16]) -> [u8; 16]
     ensures { result ≡ inv_mix_columns s }
 {
-    joined(
-        inv_mix_column(column(s, 0)),
-        inv_mix_column(column(s, 1)),
-        inv_mix_column(column(s, 2)),
-        inv_mix_column(column(s, 3)),
-    )
+    unmixed(s)
 }
 
-// The same for the rack's engine alone. A function that is called from two places becomes a part of neither, and then the state goes
-// through memory: `decrypt` took a third more time.
+// The same, laid into the rack's engine: a function that is called from two places becomes a part of neither, and then the state goes
+// through memory, where `decrypt` took a third more time.
+#[inline]
 pub(crate) fn unmixed(s: [u8; 16]) -> [u8; 16]
     ensures { result ≡ inv_mix_columns s }
 {
@@ -94,26 +85,13 @@ pub(crate) fn unmixed(s: [u8; 16]) -> [u8; 16]
     )
 }
 
-pub(crate) fn round_key(w: &[u8], r: usize) -> [u8; 16]
-    requires { (r < 15) × (16 * r + 16 ≤ length w.now) }
-    ensures { result ≡ round_key w.now r }
-{
-    let mut k = [0u8; 16];
-    let mut i = 0;
-    while i < 16 {
-        k[i] = w[16 * r + i];
-        i += 1;
-    }
-    k
-}
-
 // A lent block, by value, and a state written to one and given on.
 pub(crate) fn block(lent: &[u8]) -> [u8; 16]
     requires { length lent.now ≡ 16 }
     ensures { result ≡ lent.now }
 {
     let mut r = [0u8; 16];
-    copy(lent, &mut r);
+    r.copy_from_slice(lent);
     r
 }
 
@@ -121,17 +99,6 @@ pub(crate) fn put(s: [u8; 16], lent: &mut [u8]) -> [u8; 16]
     requires { length lent.old ≡ 16 }
     ensures { (result ≡ s) × (lent.new ≡ result) }
 {
-    copy(&s, lent);
+    lent.copy_from_slice(&s);
     s
-}
-
-pub(crate) fn copy(from: &[u8], to: &mut [u8])
-    requires { length to.old ≡ length from.now }
-    ensures { to.new ≡ from.now }
-{
-    let mut i = 0;
-    while i < from.len() {
-        to[i] = from[i];
-        i += 1;
-    }
 }

@@ -3,7 +3,8 @@
 -- Assumes nothing.
 use mathlib.Core.Path.{◌≡◌, sym, ◌∙◌}
 use Prim.Native.Nat.{ℕ}
-use Rattle.aes.proofs.Unique.{Unique, UniqueWriting, both}
+use Rattle.aes.proofs.Outcomes.{told}
+use Rattle.aes.proofs.Unique.{Unique, UniqueWriting}
 use Rattle.bank.specs.declared.keys.Bank.{Bank}
 use Rattle.bank.specs.declared.keys.Handed.{Handed}
 use Rattle.bank.proofs.keys.Bank.drop.Reads as drop
@@ -26,4 +27,4 @@ pub bank_drop_unique : Unique drop.Post
 bank_drop_unique κs args exit x y p q = handed x y _ p q
 
 pub bank_run_unique : UniqueWriting run.Post (λ κs e. e.1.1.1.1.0.now)
-bank_run_unique κs args e f x y p q = both x y _ _ _ p q
+bank_run_unique κs args e f x y p q = told x y _ _ _ p q

@@ -1,74 +1,73 @@
 // The tags of the sixteen places: 0 is a free place, and 12 p + n + 1 is schedule n of party p.
-ghost use Rattle.std.specs.Prelude.{◌≡◌, ◌≤◌};
-ghost use Rattle.aes.specs.Byte.{place};
-ghost use Rattle.bank.specs.Places.{tag, held, lowest, loaded_at};
+ghost use Rattle.std.specs.Prelude.{◌≡◌, [], ◌∷◌, ◌<◌, ◌≤◌, MatchOption, IfOk, position, ◌==◌};
+ghost use Rattle.aes.specs.Reply.{refusal};
+ghost use Rattle.aes.specs.Refusal.{reply};
+ghost use Rattle.bank.specs.Places.{tag, held, lowest, loaded_at, is_party};
 
-// The tag of a party's number.
-pub(crate) fn tag_of(party: u8, number: u8) -> u8
-    requires { (party ≤ 1) × (number ≤ 12) }
-    ensures { result ≡ tag party number }
-{
-    12 * party + number + 1
+use aes::reply::Refusal;
+
+// One of the two parties.
+#[derive(Clone, Copy)]
+pub(crate) struct Party {
+    pub(crate) id: u8,
+    ghost known: { id ≤ 1 },
 }
 
-// The first place that has the tag, and 16 where none has it.
-pub(crate) fn place_of(tags: [u8; 16], tag: u8) -> usize
-    ensures { (result ≡ place tag tags) × (result ≤ 16) }
-{
-    let mut k = 0;
-    while k < 16 {
-        if tags[k] == tag {
-            return k;
+impl Party {
+    pub(crate) fn of(id: u8) -> Result<Party, Refusal>
+        ensures told { reply result ≡ refusal (is_party id ∷ []) }
+        ensures same { IfOk result (λ p. p.id ≡ id) }
+    {
+        if 1 < id {
+            return Err(Refusal::PartyUnknown);
         }
-        k += 1;
+        Ok(Party { id })
     }
-    16
+
+    // The tag of a party's number.
+    pub(crate) fn tag(self, number: u8) -> u8
+        requires { number ≤ 12 }
+        ensures { result ≡ tag self.id number }
+    {
+        12 * self.id + number + 1
+    }
+
+    // How many places a party holds.
+    pub(crate) fn held(self, tags: &[u8; 16]) -> usize
+        ensures { result ≡ held self.id tags.now }
+    {
+        let first = self.tag(0);
+        let last = self.tag(11);
+        tags.iter().filter(|t| first <= **t && **t <= last).count()
+    }
+
+    // The lowest number that a party does not use, and 12 where it uses all, as its definition has it: an Option would give a load a
+    // case for none, which its check of twelve has ruled out.
+    pub(crate) fn lowest(self, tags: &[u8; 16]) -> u8
+        ensures { (result ≡ lowest self.id tags.now) × (result ≤ 12) }
+    {
+        for n in 0..12 {
+            if place_of(tags, self.tag(n)).is_none() {
+                return n;
+            }
+        }
+        12
+    }
+
+    // The place of a party's schedule.
+    pub(crate) fn loaded_at(self, tags: &[u8; 16], number: u8) -> Option<usize>
+        ensures { MatchOption result (loaded_at self.id number tags.now ≡ 16) (λ k. (k < 16) × (k ≡ loaded_at self.id number tags.now)) }
+    {
+        if 11 < number {
+            return None;
+        }
+        place_of(tags, self.tag(number))
+    }
 }
 
-// How many places a party holds.
-pub(crate) fn held(tags: [u8; 16], party: u8) -> u8
-    requires { party ≤ 1 }
-    ensures { result ≡ held party tags }
+// The first place that has the tag.
+pub(crate) fn place_of(tags: &[u8; 16], tag: u8) -> Option<usize>
+    ensures { result ≡ position (λ t. t == tag) tags.now }
 {
-    let low = 12 * party;
-    let mut n = 0;
-    let mut k = 0;
-    while k < 16 {
-        let t = tags[k];
-        k += 1;
-        if t <= low {
-            continue;
-        }
-        if low + 12 < t {
-            continue;
-        }
-        n += 1;
-    }
-    n
-}
-
-// The lowest number that a party does not use, and 12 where it uses all.
-pub(crate) fn lowest(tags: [u8; 16], party: u8) -> u8
-    requires { party ≤ 1 }
-    ensures { (result ≡ lowest party tags) × (result ≤ 12) }
-{
-    let mut n = 0;
-    while n < 12 {
-        if place_of(tags, tag_of(party, n)) == 16 {
-            return n;
-        }
-        n += 1;
-    }
-    12
-}
-
-// The place of a party's schedule, and 16 where it has none of that number.
-pub(crate) fn loaded_at(tags: [u8; 16], party: u8, number: u8) -> usize
-    requires { party ≤ 1 }
-    ensures { (result ≡ loaded_at party number tags) × (result ≤ 16) }
-{
-    if 11 < number {
-        return 16;
-    }
-    place_of(tags, tag_of(party, number))
+    tags.iter().position(|t| *t == tag)
 }

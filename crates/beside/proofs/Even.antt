@@ -1,19 +1,21 @@
 -- Eight counts held in one word, a byte each: the word tells them all.
 -- Assumes nothing.
-use mathlib.Core.Path.{◌≡◌, refl, sym, ap, ◌∙◌}
+use mathlib.Core.Path.{◌≡◌, refl, sym, ◌∙◌}
 use mathlib.Core.Bool.{Bool, true, false, cond}
 use mathlib.Core.List.{[], ◌∷◌}
 use Prim.Native.Nat.{ℕ, zero, suc, ◌+◌, ◌*◌, ◌^◌, ◌/◌, ◌%◌, ◌<◌, ◌≤◌}
-use native.Mathlib.Nat.{pow-suc, add-zero}
+use native.Mathlib.Nat.{pow-suc}
 use native.Mathlib.Numerals.{add-one}
 use native.Mathlib.Omega.{arith}
 use native.Mathlib.Decide.{ℕ_discrete}
 use lib.Dec.{T, eqb, eqb→eq}
 use borrow.Author.Tests.{eq-eqb, ne_eqb}
+use Rattle.std.proofs.Common.{w64}
+use Rattle.std.specs.Int.{to_le_bytes}
 use Rattle.aes.specs.Byte.{listed, below, table}
 use Rattle.aes.proofs.Below.{below_all, under}
 use Rattle.beside.specs.Fitness.{pattern, count, even}
-use Rattle.beside.specs.Counts.{word, counted, rest, apart}
+use Rattle.beside.specs.Counts.{word, counted}
 
 word-told : (n : ℕ) (c d : ℕ → ℕ) → ((t : ℕ) → c t < 256) → ((t : ℕ) → d t < 256) → word n c ≡ word n d → (t : ℕ) → t < n → c t ≡ d t
 unfolding word
@@ -103,37 +105,16 @@ counted-even g =
       | no e ↦ ne_eqb _ _ e ∙ sym (not_so _ (λ h. e (word_same 8 c (λ t. 2) (λ t lt. eqb→eq (c t) 2 (under _ 8 h t lt)))))
     ]
 
--- the word taken apart, byte by byte
-module _ (c : ℕ → ℕ) (h : (t : ℕ) → c t < 256) where
-  lowest : (n t : ℕ) → word (suc n) (λ u. c (t + u)) % 256 ≡ c t
-  unfolding word
-  lowest n t = omega (arith, h (t + 0)) ∙ ap c (add-zero t)
-
-  others : (n t : ℕ) → word (suc n) (λ u. c (t + u)) / 256 ≡ word n (λ u. c (suc t + u))
-  unfolding word
-  others n t = omega (arith, h (t + 0)) ∙ word_same n (λ u. c (t + suc u)) (λ u. c (suc t + u)) (λ u lt. ap c (omega arith))
-
-  gone : (n t : ℕ) → rest t (word 8 c) ≡ word (suc n) (λ u. c (t + u)) → rest (suc t) (word 8 c) ≡ word n (λ u. c (suc t + u))
-  unfolding rest
-  gone n t e = ap (λ (w : ℕ). w / 256) e ∙ others n t
-
-  pub apart-word : apart (word 8 c) ≡ table c 8
-  unfolding apart rest table
-  apart-word =
-      let r0 : rest 0 (word 8 c) ≡ word 8 (λ u. c (0 + u)) = word_same 8 c (λ u. c (0 + u)) (λ u lt. ap c (omega arith)) in
-      let r1 = gone 7 0 r0 in
-      let r2 = gone 6 1 r1 in
-      let r3 = gone 5 2 r2 in
-      let r4 = gone 4 3 r3 in
-      let r5 = gone 3 4 r4 in
-      let r6 = gone 2 5 r5 in
-      let r7 = gone 1 6 r6 in
-      let e0 : rest 0 (word 8 c) % 256 ≡ c 0 = ap (λ (w : ℕ). w % 256) r0 ∙ lowest 7 0 in
-      let e1 : rest 1 (word 8 c) % 256 ≡ c 1 = ap (λ (w : ℕ). w % 256) r1 ∙ lowest 6 1 in
-      let e2 : rest 2 (word 8 c) % 256 ≡ c 2 = ap (λ (w : ℕ). w % 256) r2 ∙ lowest 5 2 in
-      let e3 : rest 3 (word 8 c) % 256 ≡ c 3 = ap (λ (w : ℕ). w % 256) r3 ∙ lowest 4 3 in
-      let e4 : rest 4 (word 8 c) % 256 ≡ c 4 = ap (λ (w : ℕ). w % 256) r4 ∙ lowest 3 4 in
-      let e5 : rest 5 (word 8 c) % 256 ≡ c 5 = ap (λ (w : ℕ). w % 256) r5 ∙ lowest 2 5 in
-      let e6 : rest 6 (word 8 c) % 256 ≡ c 6 = ap (λ (w : ℕ). w % 256) r6 ∙ lowest 1 6 in
-      let e7 : rest 7 (word 8 c) % 256 ≡ c 7 = ap (λ (w : ℕ). w % 256) r7 ∙ lowest 0 7 in
-      λ i. e0 i ∷ e1 i ∷ e2 i ∷ e3 i ∷ e4 i ∷ e5 i ∷ e6 i ∷ e7 i ∷ []
+-- the bytes of the word, the lowest first
+pub bytes-word : (c : ℕ → ℕ) → ((t : ℕ) → c t < 256) → to_le_bytes w64 (word 8 c) ≡ table c 8
+unfolding word table
+bytes-word c h =
+    let e0 : word 8 c % 256 ≡ c 0 = omega (arith, h 0) in
+    let e1 : word 8 c / 256 ^ 1 % 256 ≡ c 1 = omega (arith, h 0, h 1) in
+    let e2 : word 8 c / 256 ^ 2 % 256 ≡ c 2 = omega (arith, h 0, h 1, h 2) in
+    let e3 : word 8 c / 256 ^ 3 % 256 ≡ c 3 = omega (arith, h 0, h 1, h 2, h 3) in
+    let e4 : word 8 c / 256 ^ 4 % 256 ≡ c 4 = omega (arith, h 0, h 1, h 2, h 3, h 4) in
+    let e5 : word 8 c / 256 ^ 5 % 256 ≡ c 5 = omega (arith, h 0, h 1, h 2, h 3, h 4, h 5) in
+    let e6 : word 8 c / 256 ^ 6 % 256 ≡ c 6 = omega (arith, h 0, h 1, h 2, h 3, h 4, h 5, h 6) in
+    let e7 : word 8 c / 256 ^ 7 % 256 ≡ c 7 = omega (arith, h 0, h 1, h 2, h 3, h 4, h 5, h 6, h 7) in
+    λ i. e0 i ∷ e1 i ∷ e2 i ∷ e3 i ∷ e4 i ∷ e5 i ∷ e6 i ∷ e7 i ∷ []

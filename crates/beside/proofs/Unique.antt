@@ -2,7 +2,8 @@
 -- Assumes nothing.
 use mathlib.Core.Path.{◌≡◌, refl, sym, ap, ◌∙◌}
 use Prim.Native.Nat.{ℕ, zero, suc}
-use Rattle.aes.proofs.Unique.{Unique, UniqueWriting, valued, both}
+use Rattle.aes.proofs.Outcomes.{told, told_value}
+use Rattle.aes.proofs.Unique.{Unique, UniqueWriting}
 use Rattle.beside.specs.declared.host.Sorted.{Sorted}
 use Rattle.beside.specs.declared.host.Sorted.TheVariants.{GoOn, CallerFault, DataFault}
 use Rattle.beside.specs.declared.lines.Summary.{Summary}
@@ -16,7 +17,7 @@ use Rattle.beside.proofs.lines.triples.Reads as triples
 use Rattle.beside.proofs.stored.convert.Reads as convert
 
 pub fitness_unique : Unique fitness.Post
-fitness_unique κs args exit x y p q = valued x y _ p q
+fitness_unique κs args exit x y p q = told_value x y _ p q
 
 -- each sort has its own number
 abbrev sort_of : ℕ → Sorted
@@ -36,10 +37,10 @@ pub masked_inverse_unique : Unique masked-inverse.Post
 masked_inverse_unique κs args exit x y p q = p ∙ sym q
 
 pub convert_unique : UniqueWriting convert.Post (λ κs e. e.1.0.now)
-convert_unique κs args e f x y p q = both x y _ _ _ p q
+convert_unique κs args e f x y p q = told x y _ _ _ p q
 
 pub mask_count_unique : Unique mask-count.Post
-mask_count_unique κs args exit x y p q = valued x y _ p q
+mask_count_unique κs args exit x y p q = told_value x y _ p q
 
 pub triples_unique : Unique triples.Post
 triples_unique κs args exit x y p q = p ∙ sym q

@@ -2,7 +2,7 @@
 ghost use Rattle.std.specs.Prelude.{◌≡◌};
 ghost use Rattle.beside.specs.Host.{sorted_number, sort_reply_of};
 
-#[derive(Drop)]
+#[derive(Clone, Copy, PartialEq, Eq)]
 pub enum Sorted {
     GoOn,
     CallerFault,
@@ -16,10 +16,7 @@ pub fn sort_reply(number: u8) -> Sorted
     match number {
         0 => Sorted::GoOn,
         1..=8 => Sorted::CallerFault,
-        9..=13 => Sorted::DataFault,
-        18 => Sorted::DataFault,
-        20..=21 => Sorted::DataFault,
-        23 => Sorted::DataFault,
+        9..=13 | 18 | 20..=21 | 23 => Sorted::DataFault,
         _ => Sorted::CallerFault,
     }
 }

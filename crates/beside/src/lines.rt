@@ -1,5 +1,5 @@
 // The lines of a report of a mask table, as they rise, and its last line.
-ghost use Rattle.std.specs.Prelude.{◌≡◌, cond, ◌+◌, ◌*◌, ◌<◌, eqb, length};
+ghost use Rattle.std.specs.Prelude.{◌≡◌, cond, ◌+◌, ◌*◌, ◌<◌, eqb};
 ghost use Rattle.aes.specs.Byte.{below};
 ghost use Rattle.aes.specs.State.{at};
 ghost use Rattle.beside.specs.Report.{triples, counts_at, all_counts, least, greatest, picked, last_line};
@@ -7,7 +7,7 @@ ghost use Rattle.beside.specs.Report.{triples, counts_at, all_counts, least, gre
 use crate::count::counts;
 
 // The last line: how many triples are even, and the lowest and the highest count.
-#[derive(Drop)]
+#[derive(Clone, Copy)]
 pub struct Summary {
     pub even: u16,
     pub lowest: u8,
@@ -34,28 +34,16 @@ pub fn triples() -> [u8; 168]
 pub fn report(masks: [u8; 16], lines: &mut [u8; 50176]) -> Summary
     ensures { (lines.new ≡ all_counts masks) × ((result.even, result.lowest, result.highest) ≡ last_line masks) }
 {
-    all(masks, lines)
-}
-
-fn all(masks: [u8; 16], lines: &mut [u8]) -> Summary
-    requires { length lines.old ≡ 50176 }
-    ensures { (lines.new ≡ all_counts masks) × ((result.even, result.lowest, result.highest) ≡ last_line masks) }
-{
     let list = triples();
     let mut s = Summary {
         even: 0,
         lowest: 16,
         highest: 0,
     };
-    let mut n = 0;
-    while n < 6272 {
+    for n in 0..6272 {
         let c = line(masks, &list, n);
-        let a = 8 * n;
-        let e = a + 8;
-        put(c, &mut lines[a..e]);
-        let next = s.with(c);
-        s = next;
-        n += 1;
+        lines[8 * n..8 * n + 8].copy_from_slice(&c);
+        s = s.with(c);
     }
     s
 }
@@ -76,18 +64,6 @@ fn line(masks: [u8; 16], list: &[u8; 168], n: usize) -> [u8; 8]
     )
 }
 
-// Eight counts, to their part.
-fn put(c: [u8; 8], part: &mut [u8])
-    requires { length part.old ≡ 8 }
-    ensures { part.new ≡ c }
-{
-    let mut t = 0;
-    while t < 8 {
-        part[t] = c[t];
-        t += 1;
-    }
-}
-
 impl Summary {
     // With one line more.
     fn with(self, c: [u8; 8]) -> Summary
@@ -95,46 +71,17 @@ impl Summary {
         ensures { (result.even ≡ self.even + cond (below 8 (λ t. eqb (at c t) 2)) 1 0) × (result.lowest ≡ picked least c 8 self.lowest) × (result.highest ≡ picked greatest c 8 self.highest) }
     {
         let mut two = true;
-        let mut low = self.lowest;
-        let mut high = self.highest;
-        let mut t = 0;
-        while t < 8 {
-            two = (c[t] == 2) & two;
-            low = least(c[t], low);
-            high = greatest(c[t], high);
-            t += 1;
+        let mut lowest = self.lowest;
+        let mut highest = self.highest;
+        for n in c {
+            two = (n == 2) & two;
+            lowest = n.min(lowest);
+            highest = n.max(highest);
         }
         Summary {
-            even: self.even + one(two),
-            lowest: low,
-            highest: high,
+            even: self.even + u16::from(two),
+            lowest,
+            highest,
         }
     }
-}
-
-fn least(a: u8, b: u8) -> u8
-    ensures { result ≡ least a b }
-{
-    if a < b {
-        return a;
-    }
-    b
-}
-
-fn greatest(a: u8, b: u8) -> u8
-    ensures { result ≡ greatest a b }
-{
-    if b < a {
-        return a;
-    }
-    b
-}
-
-fn one(so: bool) -> u16
-    ensures { result ≡ cond so 1 0 }
-{
-    if so {
-        return 1;
-    }
-    0
 }

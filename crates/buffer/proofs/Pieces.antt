@@ -22,13 +22,15 @@ take_over (a ∷ x) l m = rw suc-add (ap (λ (r : List ℕ). a ∷ r) (take_over
 pub width : (i : ℕ) → 8 * i + 8 - 8 * i ≡ 8
 width i = omega arith
 
--- two halves of sixteen, lent one after the other
-pub halves : (z x y : List ℕ) → length z ≡ 16 → length x ≡ 8 → length y ≡ 8 → back (back z 0 8 x) 8 8 y ≡ x ++ y
-halves z x y lz lx ly =
-    let s : List ℕ = x ++ drop 8 z in
-    let e : take 8 s ≡ x = take_at x (drop 8 z) 8 lx in
-    let d : drop 8 (drop 8 s) ≡ [] = ap (drop 8) (drop_at x (drop 8 z) 8 lx) ∙ drop_of_length-le (drop 8 z) {i = 8} (rw (length-drop, lz) (omega arith)) in
-    ap₂ (λ (p q : List ℕ). p ++ (y ++ q)) e d ∙ ap (λ (q : List ℕ). x ++ q) (append-nil y)
+-- two halves of sixteen, A and R[i], lent one after the other
+pub halves : (z s : List ℕ) (i : ℕ) {x y : List ℕ} → length z ≡ 16 → 8 * i + 8 ≤ length s
+    → x ≡ take 8 s → y ≡ take (8 * i + 8 - 8 * i) (drop (8 * i) s) → back (back z 0 8 x) 8 8 y ≡ take 8 s ++ value i s
+unfolding value
+halves z s i {x} {y} lz room ex ey =
+    let lx : length x ≡ 8 = rw ex (length-take-le 8 s (omega (arith, room))) in
+    let e : take 8 (x ++ drop 8 z) ≡ x = take_at x (drop 8 z) 8 lx in
+    let d : drop 8 (drop 8 (x ++ drop 8 z)) ≡ [] = ap (drop 8) (drop_at x (drop 8 z) 8 lx) ∙ drop_of_length-le (drop 8 z) {i = 8} (rw (length-drop, lz) (omega arith)) in
+    ap₂ (λ (p q : List ℕ). p ++ (y ++ q)) (e ∙ ex) d ∙ ap (λ (q : List ℕ). take 8 s ++ q) (append-nil y ∙ ey ∙ ap (λ (k : ℕ). take k (drop (8 * i) s)) (width i))
 
 -- A and R[i] put back
 pub put_back : (i : ℕ) (s x y : List ℕ) → 0 < i → 8 * i + 8 ≤ length s → length x ≡ 8 → back (back s 0 8 x) (8 * i) 8 y ≡ with_values i x y s
@@ -44,7 +46,7 @@ put_back i s x y pos room lx =
     ∙ sym (append_assoc (x ++ take (8 * i - 8) (drop 8 s)) y (drop (8 * i + 8) s))
 
 -- below 256 the counter is all in the last byte
-pub counted-last : (t : ℕ) (b : List ℕ) → t < 256 → length b ≡ 16 → set b 7 (at b 7 ⊕ t % 256) ≡ counted t (take 8 b) ++ drop 8 b
+pub counted-last : (t : ℕ) (b : List ℕ) → t < 256 → length b ≡ 16 → set b 7 (at b 7 ⊕ t) ≡ counted t (take 8 b) ++ drop 8 b
 unfolding counted
 counted-last t [] h l = absurd (omega arith)
 counted-last t (b0 ∷ []) h l = absurd (omega arith)
@@ -61,7 +63,7 @@ counted-last t (b0 ∷ b1 ∷ b2 ∷ b3 ∷ b4 ∷ b5 ∷ b6 ∷ b7 ∷ r) h l =
     kept : (b d : ℕ) → t / d % 256 ≡ 0 → b ≡ b ⊕ t / d % 256
     kept b d e = sym (ap (λ (x : ℕ). b ⊕ x) e ∙ xor_zero b)
 
-    last : b7 ⊕ t % 256 ≡ b7 ⊕ t / 256 ^ 0 % 256
+    last : b7 ⊕ t ≡ b7 ⊕ t / 256 ^ 0 % 256
     last = ap (λ (x : ℕ). b7 ⊕ x) (omega arith)
 
 -- the halves of what counted gives
@@ -94,11 +96,3 @@ gathered_first s r l = take_at (take 8 s) r 8 (length-take-le 8 s l)
 
 pub gathered_second : (s r : List ℕ) → 8 ≤ length s → drop 8 (take 8 s ++ r) ≡ r
 gathered_second s r l = drop_at (take 8 s) r 8 (length-take-le 8 s l)
-
--- eight bytes and the rest of a buffer, lent one after the other
-pub laid : (o x y a r : List ℕ) → length o ≡ length r + 8 → length a ≡ 8 → x ≡ a → y ≡ r → back (back o 0 8 x) 8 (length o - 8) y ≡ a ++ r
-laid o x y a r size la ex ey =
-    let s : List ℕ = a ++ drop 8 o in
-    let first : take 8 s ≡ a = take_at a (drop 8 o) 8 la in
-    let rest : drop (length o - 8) (drop 8 s) ≡ [] = ap (drop (length o - 8)) (drop_at a (drop 8 o) 8 la) ∙ drop_of_length-le (drop 8 o) {i = length o - 8} (rw length-drop (omega arith)) in
-    ap (λ (z : List ℕ). back (back o 0 8 z) 8 (length o - 8) y) ex ∙ ap₂ (λ (p q : List ℕ). p ++ (y ++ q)) first rest ∙ ap (λ (q : List ℕ). a ++ q) (append-nil y ∙ ey)

@@ -1,7 +1,8 @@
 -- Uniqueness: whatever the arguments, a promise allows one result, or one content of the lent buffer.
 -- Assumes nothing.
 use mathlib.Core.Path.{refl, sym, ◌∙◌}
-use Rattle.aes.proofs.Unique.{Unique, UniqueWriting, both}
+use Rattle.aes.proofs.Outcomes.{told}
+use Rattle.aes.proofs.Unique.{Unique, UniqueWriting}
 use Rattle.buffer.proofs.ends.handed_out.Reads as Handed-out
 use Rattle.buffer.proofs.ends.laid.Reads as laid
 use Rattle.buffer.proofs.values.copy.Reads as copy
@@ -16,7 +17,7 @@ pub counted_unique : Unique counted.Post
 counted_unique κs args exit x y p q = p ∙ sym q
 
 pub handed_out_unique : UniqueWriting Handed-out.Post (λ κs e. e.1.1.0.now)
-handed_out_unique κs args e f x y p q = both x y _ _ _ p q
+handed_out_unique κs args e f x y p q = told x y _ _ _ p q
 
 pub scatter_unique : UniqueWriting scatter.Post (λ κs e. e.1.0.now)
 scatter_unique κs args e f x y p q = (refl, p ∙ sym q)

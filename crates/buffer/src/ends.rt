@@ -2,10 +2,11 @@
 ghost use Rattle.std.specs.Prelude.{◌≡◌, [], ◌∷◌, ◌++◌, ◌+◌, ◌≤◌, eqb, length, get_or};
 ghost use Rattle.aes.specs.Byte.{below};
 ghost use Rattle.aes.specs.Reply.{answer, is_intact};
+ghost use Rattle.aes.specs.Refusal.{reply};
 ghost use Rattle.buffer.specs.Wrap.{initial};
 
 use crate::values::copy;
-use aes::reply;
+use aes::reply::Refusal;
 
 const INITIAL: u8 = 0xa6;
 
@@ -14,22 +15,20 @@ pub fn laid(keys: &[u8], buffer: &mut [u8])
     requires { (length buffer.old ≡ length keys.now + 8) × (length keys.now ≤ 256) }
     ensures { buffer.new ≡ initial ++ keys.now }
 {
-    let initial = [INITIAL; 8];
-    let e = buffer.len();
-    copy(&initial, &mut buffer[0..8]);
-    copy(keys, &mut buffer[8..e]);
+    buffer[..8].fill(INITIAL);
+    copy(keys, &mut buffer[8..]);
 }
 
 // Key data is handed out where the register beside it is right.
-pub fn handed_out(register: &[u8], recovered: &[u8], keys: &mut [u8]) -> u8
+pub fn handed_out(register: &[u8], recovered: &[u8], keys: &mut [u8]) -> Result<(), Refusal>
     requires { (length register.now ≡ 8) × (length keys.old ≡ length recovered.now) }
-    ensures { (result, keys.new) ≡ answer (is_intact register.now ∷ []) keys.old recovered.now }
+    ensures { (reply result, keys.new) ≡ answer (is_intact register.now ∷ []) keys.old recovered.now }
 {
     if !intact(register) {
-        return reply::INTEGRITY;
+        return Err(Refusal::Integrity);
     }
-    copy(recovered, keys);
-    reply::DONE
+    keys.copy_from_slice(recovered);
+    Ok(())
 }
 
 // Whether a register is the initial value. Every byte is looked at, whatever the others are.
@@ -38,11 +37,8 @@ fn intact(register: &[u8]) -> bool
     ensures { result ≡ below 8 (λ i. eqb (get_or register.now i 0) 0xa6) }
 {
     let mut same = true;
-    let mut i = 0;
-    while i < 8 {
-        let here = register[i] == INITIAL;
-        same = here & same;
-        i += 1;
+    for byte in register {
+        same &= *byte == INITIAL;
     }
     same
 }

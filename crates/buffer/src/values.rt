@@ -8,21 +8,19 @@ pub fn gather(buffer: &[u8], i: usize) -> [u8; 16]
     ensures { result ≡ take 8 buffer.now ++ value i buffer.now }
 {
     let a = 8 * i;
-    let e = a + 8;
     let mut r = [0u8; 16];
-    copy(&buffer[0..8], &mut r[0..8]);
-    copy(&buffer[a..e], &mut r[8..16]);
+    r[..8].copy_from_slice(&buffer[..8]);
+    r[8..].copy_from_slice(&buffer[a..a + 8]);
     r
 }
 
 // The counter xored to the first eight bytes: below 256 it is all in the last of them.
-pub fn counted(b: [u8; 16], t: usize) -> [u8; 16]
+pub fn counted(mut b: [u8; 16], t: usize) -> [u8; 16]
     requires { t < 256 }
     ensures { result ≡ counted t (take 8 b) ++ drop 8 b }
 {
-    let mut r = b;
-    r[7] = b[7] ^ ((t % 256) as u8);
-    r
+    b[7] ^= t as u8;
+    b
 }
 
 // Other A and R[i].
@@ -31,18 +29,16 @@ pub fn scatter(b: [u8; 16], buffer: &mut [u8], i: usize)
     ensures { buffer.new ≡ with_values i (take 8 b) (drop 8 b) buffer.old }
 {
     let a = 8 * i;
-    let e = a + 8;
-    copy(&b[0..8], &mut buffer[0..8]);
-    copy(&b[8..16], &mut buffer[a..e]);
+    buffer[..8].copy_from_slice(&b[..8]);
+    buffer[a..a + 8].copy_from_slice(&b[8..]);
 }
 
+// Byte by byte, which becomes memcpy: by the method of slices the library would want memmove of the C library too (tools/symbols).
 pub fn copy(from: &[u8], to: &mut [u8])
     requires { length to.old ≡ length from.now }
     ensures { to.new ≡ from.now }
 {
-    let mut i = 0;
-    while i < from.len() {
+    for i in 0..from.len() {
         to[i] = from[i];
-        i += 1;
     }
 }

@@ -1,4 +1,9 @@
 // How the labels of a masked run go: from the offset of each byte on, by a step.
+ghost use Rattle.std.specs.Prelude.{◌<◌};
+
+use std::array::from_fn;
+
+// The offset of the first byte, the step, and how far the offset of each byte is from that of the byte before it.
 #[derive(Clone, Copy)]
 pub struct Labels {
     pub offset: u8,
@@ -12,73 +17,38 @@ pub const ALL: usize = 208;
 // So many with the record of one offset, and as many with others.
 pub const RECORDS: usize = 416;
 
-// The labels of the run with this number. Offset and step both turn, and 16 and 13 have no factor in common: so any 208 runs on
-// end have them all. The steps are 1 and 4 to 15.
-pub fn turned(i: usize) -> Labels {
-    let offset = (i % 16) as u8;
-    let spread = spread(i);
-    let n = i % 13;
-    if n == 0 {
-        return Labels {
-            offset,
-            step: 1,
-            spread,
-        };
-    }
-    Labels {
-        offset,
-        step: (n + 3) as u8,
-        spread,
-    }
-}
+const STEPS: [u8; 13] = [1, 4, 5, 6, 7, 8, 9, 10, 11, 12, 13, 14, 15];
 
-// How far the offset of each byte is from that of the byte before it: by 1 at one offset, and by 0 or 2 to 15 in other records.
-fn spread(i: usize) -> u8 {
-    let n = i % 15;
-    if i <= ALL {
-        return 1;
+// By 1 the offset of each byte is that of its run; these are those of other records.
+const SPREADS: [u8; 15] = [0, 2, 3, 4, 5, 6, 7, 8, 9, 10, 11, 12, 13, 14, 15];
+
+// The labels of the run with this number. Offset and step both turn, and 16 and 13 have no factor in common: so any 208 runs on
+// end have them all.
+pub fn turned(i: usize) -> Labels {
+    Labels {
+        offset: (i % 16) as u8,
+        step: STEPS[i % 13],
+        spread: if i <= ALL { 1 } else { SPREADS[i % 15] },
     }
-    if n == 0 {
-        return 0;
-    }
-    (n + 1) as u8
 }
 
 impl Labels {
-    // The label of the first byte, so many rounds on.
-    pub fn after(self, rounds: usize) -> usize {
-        let step = self.step as usize;
-        let mut label = self.offset as usize;
-        let mut i = 0;
-        while i < rounds {
-            label = (label + step) % 16;
-            i += 1;
-        }
-        label
+    // The label of byte k of a state, so many rounds on.
+    pub fn label(self, rounds: usize, k: usize) -> usize
+        ensures { result < 16 }
+    {
+        let step = usize::from(self.step);
+        let spread = usize::from(self.spread);
+        (usize::from(self.offset) + rounds % 16 * step + k % 16 * spread) % 16
     }
 
     // The offset of each byte.
     pub fn record(self) -> [u8; 16] {
-        let spread = self.spread as usize;
-        let mut offset = self.offset as usize % 16;
-        let mut r = [0u8; 16];
-        let mut k = 0;
-        while k < 16 {
-            r[k] = offset as u8;
-            offset = (offset + spread) % 16;
-            k += 1;
-        }
-        r
+        from_fn(|k| self.label(0, k) as u8)
     }
 
     // The offsets of blocks in one call: each is one further than that of the block before it.
     pub fn offsets(self) -> [u8; 16] {
-        let mut r = [0u8; 16];
-        let mut k = 0;
-        while k < 16 {
-            r[k] = ((self.offset as usize + k) % 16) as u8;
-            k += 1;
-        }
-        r
+        Labels { spread: 1, ..self }.record()
     }
 }

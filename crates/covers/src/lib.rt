@@ -2,6 +2,7 @@
 // what a line asks of a call. Nothing is taken of the crates whose runs are held to it.
 #![tactic(auto)]
 
+pub mod answer;
 pub mod key;
 pub mod labels;
 pub mod mask;

@@ -16,16 +16,11 @@ pub fn over_state(way: Way, table: [u8; 16], labels: Labels, n: usize) -> [u8; 1
 fn over_encryption(table: [u8; 16], labels: Labels, n: usize) -> [u8; 16] {
     let own = mask(table, labels, n / 5);
     let next = mask(table, labels, n / 5 + 1);
-    if n == 69 {
-        return shift_rows(next);
-    }
-    if n == 70 {
-        return [0u8; 16];
-    }
-    match n % 5 {
-        2 => next,
-        3 => shift_rows(next),
-        4 => mix_columns(shift_rows(next)),
+    match (n, n % 5) {
+        (70, _) => [0; 16],
+        (69, _) | (_, 3) => shift_rows(next),
+        (_, 2) => next,
+        (_, 4) => mix_columns(shift_rows(next)),
         _ => own,
     }
 }
@@ -35,16 +30,12 @@ fn over_encryption(table: [u8; 16], labels: Labels, n: usize) -> [u8; 16] {
 fn over_decryption(table: [u8; 16], labels: Labels, n: usize) -> [u8; 16] {
     let own = mask(table, labels, n / 6);
     let next = mask(table, labels, n / 6 + 1);
-    if n == 0 {
-        return own;
-    }
-    if n == 84 {
-        return [0u8; 16];
-    }
-    match n % 6 {
-        0 => inv_mix_columns(own),
-        2 => inv_shift_rows(own),
-        4 | 5 => next,
+    match (n, n % 6) {
+        (0, _) => own,
+        (84, _) => [0; 16],
+        (_, 0) => inv_mix_columns(own),
+        (_, 2) => inv_shift_rows(own),
+        (_, 4 | 5) => next,
         _ => own,
     }
 }

@@ -5,6 +5,7 @@
 ghost use Rattle.std.specs.Prelude.{◌≡◌};
 ghost use Rattle.aes.specs.Field.{◌•◌, inverse};
 ghost use Rattle.aes.specs.Box.{s_box};
+ghost use Rattle.aes.specs.Refusal.{reply, value};
 ghost use Rattle.aes.specs.Calls.{expand_key_of, encrypt_of, decrypt_of, record_plain_of, power_of, logarithm_of};
 ghost use Rattle.masked.specs.Calls.{encrypt_published_of, encrypt_blocks_of, encrypt_masked_of, record_masked_of, decrypt_published_of, decrypt_masked_of, record_masked_decryption_of};
 ghost use Rattle.masks.specs.Mask.{published, masked_box};
@@ -13,42 +14,41 @@ ghost use Rattle.beside.specs.Fitness.{fitness_of};
 ghost use Rattle.beside.specs.Report.{mask_count_of};
 ghost use Rattle.beside.specs.Inversion.{masked_inverse};
 ghost use Rattle.beside.specs.Stored.{convert_of};
-ghost use Rattle.beside.specs.Host.{sorted_number, sort_reply_of};
+ghost use Rattle.beside.specs.Host.{sort_reply_of};
 ghost use Rattle.wrap.specs.Calls.{wrap_of, wrap_masked_of, unwrap_of, unwrap_masked_of};
 ghost use Rattle.packet.specs.Calls.{scramble_of, descramble_of};
 ghost use Rattle.bank.specs.Calls.{empty_bank, load_of, drop_of, run_of};
 ghost use Rattle.face.specs.Packed.{packed, packed_beside};
 
-use aes::reply::Valued;
+use aes::reply::{Refusal, reply};
 use bank::{Bank, Handed};
-use beside::Sorted;
 
 #[unsafe(no_mangle)]
 pub extern "C" fn slipgrease_expand_key(key: &[u8], schedule: &mut [u8]) -> u8
     ensures { (result, schedule.new) ≡ expand_key_of key.now schedule.old }
 {
-    aes::expand_key(key, schedule)
+    reply(aes::expand_key(key, schedule))
 }
 
 #[unsafe(no_mangle)]
 pub extern "C" fn slipgrease_encrypt(schedule: &[u8], input: &[u8], output: &mut [u8]) -> u8
     ensures { (result, output.new) ≡ encrypt_of schedule.now input.now output.old }
 {
-    aes::encrypt(schedule, input, output)
+    reply(aes::encrypt(schedule, input, output))
 }
 
 #[unsafe(no_mangle)]
 pub extern "C" fn slipgrease_decrypt(schedule: &[u8], input: &[u8], output: &mut [u8]) -> u8
     ensures { (result, output.new) ≡ decrypt_of schedule.now input.now output.old }
 {
-    aes::decrypt(schedule, input, output)
+    reply(aes::decrypt(schedule, input, output))
 }
 
 #[unsafe(no_mangle)]
 pub extern "C" fn slipgrease_record_plain(schedule: &[u8], input: &[u8], states: &mut [u8]) -> u8
     ensures { (result, states.new) ≡ record_plain_of schedule.now input.now states.old }
 {
-    aes::record_plain(schedule, input, states)
+    reply(aes::record_plain(schedule, input, states))
 }
 
 #[unsafe(no_mangle)]
@@ -62,7 +62,7 @@ pub extern "C" fn slipgrease_encrypt_published(
 ) -> u8
     ensures { (result, output.new) ≡ encrypt_published_of schedule.now input.now output.old offsets.now step form }
 {
-    masked::encrypt_published(schedule, input, output, offsets, step, form)
+    reply(masked::encrypt_published(schedule, input, output, offsets, step, form))
 }
 
 #[unsafe(no_mangle)]
@@ -76,7 +76,7 @@ pub extern "C" fn slipgrease_encrypt_blocks(
 ) -> u8
     ensures { (result, output.new) ≡ encrypt_blocks_of schedule.now input.now output.old offsets.now step form }
 {
-    masked::encrypt_blocks(schedule, input, output, offsets, step, form)
+    reply(masked::encrypt_blocks(schedule, input, output, offsets, step, form))
 }
 
 #[unsafe(no_mangle)]
@@ -91,7 +91,7 @@ pub extern "C" fn slipgrease_encrypt_masked(
 ) -> u8
     ensures { (result, output.new) ≡ encrypt_masked_of schedule.now input.now output.old masks.now offsets.now step form }
 {
-    masked::encrypt_masked(schedule, input, output, masks, offsets, step, form)
+    reply(masked::encrypt_masked(schedule, input, output, masks, offsets, step, form))
 }
 
 #[unsafe(no_mangle)]
@@ -105,7 +105,7 @@ pub extern "C" fn slipgrease_record_masked(
 ) -> u8
     ensures { (result, states.new) ≡ record_masked_of schedule.now input.now masks.now offsets.now step states.old }
 {
-    masked::record_masked(schedule, input, masks, offsets, step, states)
+    reply(masked::record_masked(schedule, input, masks, offsets, step, states))
 }
 
 #[unsafe(no_mangle)]
@@ -118,7 +118,7 @@ pub extern "C" fn slipgrease_decrypt_published(
 ) -> u8
     ensures { (result, output.new) ≡ decrypt_published_of schedule.now input.now output.old offsets.now step }
 {
-    masked::decrypt_published(schedule, input, output, offsets, step)
+    reply(masked::decrypt_published(schedule, input, output, offsets, step))
 }
 
 #[unsafe(no_mangle)]
@@ -132,7 +132,7 @@ pub extern "C" fn slipgrease_decrypt_masked(
 ) -> u8
     ensures { (result, output.new) ≡ decrypt_masked_of schedule.now input.now output.old masks.now offsets.now step }
 {
-    masked::decrypt_masked(schedule, input, output, masks, offsets, step)
+    reply(masked::decrypt_masked(schedule, input, output, masks, offsets, step))
 }
 
 #[unsafe(no_mangle)]
@@ -146,7 +146,7 @@ pub extern "C" fn slipgrease_record_masked_decryption(
 ) -> u8
     ensures { (result, states.new) ≡ record_masked_decryption_of schedule.now input.now masks.now offsets.now step states.old }
 {
-    masked::record_masked_decryption(schedule, input, masks, offsets, step, states)
+    reply(masked::record_masked_decryption(schedule, input, masks, offsets, step, states))
 }
 
 #[unsafe(no_mangle)]
@@ -160,7 +160,7 @@ pub extern "C" fn slipgrease_read_sheet(sheet: &[u8], masks: &mut [u8]) -> u16
 pub extern "C" fn slipgrease_write_sheet(masks: &[u8], step: u8, sheet: &mut [u8]) -> u8
     ensures { (result, sheet.new) ≡ write_sheet_of masks.now step sheet.old }
 {
-    masks::write_sheet(masks, step, sheet)
+    reply(masks::write_sheet(masks, step, sheet))
 }
 
 #[unsafe(no_mangle)]
@@ -189,21 +189,21 @@ pub extern "C" fn slipgrease_mask_count(
 pub extern "C" fn slipgrease_convert(input: &[u8], output: &mut [u8], offset: u8) -> u8
     ensures { (result, output.new) ≡ convert_of input.now output.old offset }
 {
-    beside::convert(input, output, offset)
+    reply(beside::convert(input, output, offset))
 }
 
 #[unsafe(no_mangle)]
 pub extern "C" fn slipgrease_wrap(schedule: &[u8], key_data: &[u8], wrapped: &mut [u8]) -> u8
     ensures { (result, wrapped.new) ≡ wrap_of schedule.now key_data.now wrapped.old }
 {
-    wrap::wrap(schedule, key_data, wrapped)
+    reply(wrap::wrap(schedule, key_data, wrapped))
 }
 
 #[unsafe(no_mangle)]
 pub extern "C" fn slipgrease_unwrap(schedule: &[u8], wrapped: &[u8], key_data: &mut [u8]) -> u8
     ensures { (result, key_data.new) ≡ unwrap_of schedule.now wrapped.now key_data.old }
 {
-    wrap::unwrap(schedule, wrapped, key_data)
+    reply(wrap::unwrap(schedule, wrapped, key_data))
 }
 
 #[unsafe(no_mangle)]
@@ -215,7 +215,7 @@ pub extern "C" fn slipgrease_wrap_masked(
 ) -> u8
     ensures { (result, wrapped.new) ≡ wrap_masked_of schedule.now key_data.now wrapped.old offset }
 {
-    wrap::wrap_masked(schedule, key_data, wrapped, offset)
+    reply(wrap::wrap_masked(schedule, key_data, wrapped, offset))
 }
 
 #[unsafe(no_mangle)]
@@ -227,7 +227,7 @@ pub extern "C" fn slipgrease_unwrap_masked(
 ) -> u8
     ensures { (result, key_data.new) ≡ unwrap_masked_of schedule.now wrapped.now key_data.old offset }
 {
-    wrap::unwrap_masked(schedule, wrapped, key_data, offset)
+    reply(wrap::unwrap_masked(schedule, wrapped, key_data, offset))
 }
 
 #[unsafe(no_mangle)]
@@ -239,14 +239,14 @@ pub extern "C" fn slipgrease_scramble(
 ) -> u8
     ensures { (result, packet_out.new) ≡ scramble_of packet.now packet_out.old pipes.now odd }
 {
-    packet::scramble(packet, packet_out, pipes, odd)
+    reply(packet::scramble(packet, packet_out, pipes, odd))
 }
 
 #[unsafe(no_mangle)]
 pub extern "C" fn slipgrease_descramble(packet: &[u8], packet_out: &mut [u8], pipes: &[u8]) -> u8
     ensures { (result, packet_out.new) ≡ descramble_of packet.now packet_out.old pipes.now }
 {
-    packet::descramble(packet, packet_out, pipes)
+    reply(packet::descramble(packet, packet_out, pipes))
 }
 
 #[unsafe(no_mangle)]
@@ -302,22 +302,15 @@ pub extern "C" fn slipgrease_tower_box(label: u8, x: u8) -> u8
 pub extern "C" fn slipgrease_sort_reply(number: u8) -> u8
     ensures { result ≡ sort_reply_of number }
 {
-    sorted_number(beside::sort_reply(number))
+    beside::sort_reply(number) as u8
 }
 
-fn packed(v: Valued) -> u16
-    ensures { result ≡ packed (v.number, v.value) }
+fn packed(outcome: Result<u8, Refusal>) -> u16
+    ensures { result ≡ packed (reply outcome, value outcome) }
 {
-    v.number as u16 * 256 + v.value as u16
-}
-
-fn sorted_number(s: Sorted) -> u8
-    ensures { result ≡ sorted_number s }
-{
-    match s {
-        Sorted::GoOn => 0,
-        Sorted::CallerFault => 1,
-        Sorted::DataFault => 2,
+    match outcome {
+        Ok(value) => value as u16,
+        Err(refusal) => refusal as u16 * 256,
     }
 }
 
@@ -346,7 +339,7 @@ pub extern "C" fn slipgrease_bank_run(
 ) -> u8
     ensures { (result, output.new) ≡ run_of bank party number input.now output.old offset }
 {
-    bank.run(party, number, input, output, offset)
+    reply(bank.run(party, number, input, output, offset))
 }
 
 #[unsafe(no_mangle)]

@@ -1,25 +1,20 @@
 // The example of FIPS 197 appendix C.3: one key, one block, and every state on the way to the last, of the cipher and of the inverse
 // cipher.
-use crate::text::{part, place_of, read_hex};
+use crate::text::{field, hex, place_of};
 use crate::vector::Way;
 
 // A state stands at its number in the record; a round key, at its own number after those of the cipher.
 pub const SCHEDULED: usize = 71;
 
-const NOWHERE: usize = 86;
+pub const KEY: [u8; 32] = *b"\
+\x00\x01\x02\x03\x04\x05\x06\x07\x08\x09\x0a\x0b\x0c\x0d\x0e\x0f\
+\x10\x11\x12\x13\x14\x15\x16\x17\x18\x19\x1a\x1b\x1c\x1d\x1e\x1f";
 
-// The state of a line, where it stands, and whether the line could be read.
+// The state of a line, and where it stands.
 #[derive(Clone, Copy)]
 pub struct State {
-    pub read: bool,
     pub place: usize,
     pub bytes: [u8; 16],
-}
-
-pub fn key() -> [u8; 32] {
-    *b"\
-\x00\x01\x02\x03\x04\x05\x06\x07\x08\x09\x0a\x0b\x0c\x0d\x0e\x0f\
-\x10\x11\x12\x13\x14\x15\x16\x17\x18\x19\x1a\x1b\x1c\x1d\x1e\x1f"
 }
 
 // The input of the cipher, and that of the inverse cipher.
@@ -30,26 +25,20 @@ pub fn block(way: Way) -> [u8; 16] {
     }
 }
 
-// A line is a round, the name of a state and the state.
-pub fn read(line: &[u8], way: Way) -> State {
-    let mut bytes = [0u8; 16];
-    let read = read_hex(part(line, 2, b' '), &mut bytes);
-    let place = place(line, way);
-    State {
-        read: read & (place < NOWHERE),
-        place,
-        bytes,
+impl State {
+    // A line is a round, the name of a state and the state.
+    pub fn read(line: &[u8], way: Way) -> Option<State> {
+        let name = line.get(..line.len().checked_sub(33)?)?;
+        Some(State {
+            place: place(name, way)?,
+            bytes: hex(field(line, 2))?,
+        })
     }
 }
 
-// Where the state of a line stands, by what the line has before its 32 digits and a space. Where a list has -, the appendix prints
-// no state.
-fn place(line: &[u8], way: Way) -> usize {
-    if line.len() < 33 {
-        return NOWHERE;
-    }
-    let end = line.len() - 33;
-    let name = &line[0..end];
+// Where the state of this name stands, which a line has before its 32 digits and a space. Where a list has -, the appendix prints no
+// state.
+fn place(name: &[u8], way: Way) -> Option<usize> {
     match way {
         Way::Encrypt => place_of(
             name,
@@ -71,7 +60,6 @@ fn place(line: &[u8], way: Way) -> usize {
 14 start\n14 s_box\n14 s_row\n-\n14 output\n\
 0 k_sch\n1 k_sch\n2 k_sch\n3 k_sch\n4 k_sch\n5 k_sch\n6 k_sch\n7 k_sch\n\
 8 k_sch\n9 k_sch\n10 k_sch\n11 k_sch\n12 k_sch\n13 k_sch\n14 k_sch",
-            NOWHERE,
         ),
         Way::Decrypt => place_of(
             name,
@@ -91,24 +79,11 @@ fn place(line: &[u8], way: Way) -> usize {
 12 is_row\n-\n12 is_box\n12 ik_add\n13 istart\n-\n\
 13 is_row\n-\n13 is_box\n13 ik_add\n14 istart\n-\n\
 14 is_row\n-\n14 is_box\n-\n14 ioutput\n-",
-            NOWHERE,
         ),
     }
 }
 
-// The state of number n in a row of them; zeros, which the example has nowhere, where it does not go so far.
-pub fn state_at(states: &[u8], n: usize) -> [u8; 16] {
-    let mut r = [0u8; 16];
-    if NOWHERE <= n {
-        return r;
-    }
-    let mut i = 0;
-    while i < 16 {
-        let at = 16 * n + i;
-        if at < states.len() {
-            r[i] = states[at];
-        }
-        i += 1;
-    }
-    r
+// The state of number n in a row of them, where it goes so far.
+pub fn state_at(states: &[u8], n: usize) -> Option<[u8; 16]> {
+    states.as_chunks().0.get(n).copied()
 }

@@ -1,119 +1,90 @@
 // What was run, what differed and what could not be read, up to the line that a program has come to, and the table of it.
-use crate::print::print;
 use std::io::Print;
 
-// As many rows as a table may have; after them comes one for all.
-const ROWS: usize = 16;
-
-// A row has two cells, for the vectors that were run and for those that differ. Three cells follow: for the lines that could not be
-// read, for all lines, and for the source of the last of them.
-const UNREAD: usize = 2 * ROWS + 2;
-
-const LINES: usize = 2 * ROWS + 3;
-
-pub const SOURCE: usize = 2 * ROWS + 4;
-
-pub const CELLS: usize = 2 * ROWS + 5;
-
 // How many vectors were run, and how many differed. The input is too short for a count to wrap.
-#[derive(Clone, Copy)]
+#[derive(Clone, Copy, Default)]
 pub struct Tally {
     run: u64,
     differ: u64,
 }
 
 impl Tally {
-    pub fn none() -> Tally {
-        Tally { run: 0, differ: 0 }
-    }
-
     // With one vector more.
     pub fn with(self, same: bool) -> Tally {
-        let run = self.run.wrapping_add(1);
-        if same {
-            return Tally {
-                run,
-                differ: self.differ,
-            };
-        }
+        self.plus(Tally {
+            run: 1,
+            differ: u64::from(!same),
+        })
+    }
+
+    fn plus(self, more: Tally) -> Tally {
         Tally {
-            run,
-            differ: self.differ.wrapping_add(1),
+            run: self.run.wrapping_add(more.run),
+            differ: self.differ.wrapping_add(more.differ),
         }
     }
 }
 
-// Adds to a row, and to that for all.
-pub fn add(counts: &mut [u64; CELLS], row: usize, tally: Tally) {
-    if row < ROWS {
-        raise(counts, 2 * row, tally.run);
-        raise(counts, 2 * row + 1, tally.differ);
-        raise(counts, 2 * ROWS, tally.run);
-        raise(counts, 2 * ROWS + 1, tally.differ);
-    }
+// As many rows as a table may have.
+const ROWS: usize = 16;
+
+// The rows, and how many lines there were and how many of these could not be read.
+#[derive(Clone, Copy)]
+pub struct Counts {
+    rows: [Tally; ROWS],
+    lines: u64,
+    unread: u64,
 }
 
-// The same for one vector.
-pub fn count(counts: &mut [u64; CELLS], row: usize, same: bool) {
-    add(counts, row, Tally::none().with(same));
-}
-
-// Counts a line, and says that it could not be read, where that is so.
-pub fn report(rt: &impl Print, read: bool, counts: &mut [u64; CELLS]) {
-    raise(counts, LINES, 1);
-    if !read {
-        raise(counts, UNREAD, 1);
-        let mut words = *b"line      0 could not be read\n";
-        put(&mut words, 10, counts[LINES]);
-        print(rt, &words);
-    }
-}
-
-fn raise(counts: &mut [u64; CELLS], cell: usize, by: u64) {
-    if cell < CELLS {
-        counts[cell] = counts[cell].wrapping_add(by);
-    }
-}
-
-// Prints a table that has zeros so far: a header, the rows and one for all, in lines of sixty bytes, with columns that end at byte
-// 49 and 58, and a last line for what could not be read.
-pub fn print_table(rt: &impl Print, table: &mut [u8], counts: &[u64; CELLS]) {
-    let mut cell = 0;
-    while cell < 2 * ROWS {
-        put(table, 60 * (cell / 2) + 9 * (cell % 2) + 109, counts[cell]);
-        cell += 1;
-    }
-    put_end(table, counts);
-    print(rt, table);
-}
-
-// The last two lines.
-fn put_end(table: &mut [u8], counts: &[u64; CELLS]) {
-    let end = table.len();
-    if end < 111 {
-        return;
-    }
-    put(table, end - 62, counts[2 * ROWS]);
-    put(table, end - 53, counts[2 * ROWS + 1]);
-    put(table, end - 2, counts[UNREAD]);
-}
-
-// Puts the digits of a number into a text, the last of them at the place last. A zero is there already.
-fn put(text: &mut [u8], last: usize, n: u64) {
-    let mut at = last;
-    let mut rest = n;
-    while 0 < rest {
-        put_byte(text, at, b'0' + (rest % 10) as u8);
-        rest /= 10;
-        if 0 < at {
-            at -= 1;
+impl Counts {
+    pub fn none() -> Counts {
+        Counts {
+            rows: [Tally::default(); ROWS],
+            lines: 0,
+            unread: 0,
         }
     }
+
+    // Adds to a row.
+    pub fn add(&mut self, row: usize, tally: Tally) {
+        if let Some(own) = self.rows.get_mut(row) {
+            *own = own.plus(tally);
+        }
+    }
+
+    // The same for one vector.
+    pub fn count(&mut self, row: usize, same: bool) {
+        self.add(row, Tally::default().with(same));
+    }
+
+    // Counts a line, and says that it could not be read, where that is so. What is not written is missing from what the program is
+    // held to.
+    pub fn report(&mut self, rt: &impl Print, read: Option<()>) {
+        self.lines = self.lines.wrapping_add(1);
+        if read.is_none() {
+            self.unread = self.unread.wrapping_add(1);
+            let line = self.lines;
+            let _ = print!(rt; "line {line:>6} could not be read\n");
+        }
+    }
+
+    // Prints the table: a header, the rows by their names and one for all, with columns that end at byte 49 and 58, and a last line for
+    // what could not be read.
+    pub fn print(&self, rt: &impl Print, title: &str, names: &[&str]) {
+        let _ = print!(rt; "{title:<41}      run   differ\n");
+        let mut all = Tally::default();
+        for (name, tally) in names.iter().zip(self.rows.iter()) {
+            print_row(rt, name, *tally);
+            all = all.plus(*tally);
+        }
+        print_row(rt, "all", all);
+        let unread = self.unread;
+        let _ = print!(rt; "lines that could not be read             {unread:>9}\n");
+    }
 }
 
-// Nothing is put past the end.
-pub fn put_byte(text: &mut [u8], at: usize, byte: u8) {
-    if at < text.len() {
-        text[at] = byte;
-    }
+fn print_row(rt: &impl Print, name: &str, tally: Tally) {
+    let run = tally.run;
+    let differ = tally.differ;
+    let _ = print!(rt; "  {name:<39}{run:>9}{differ:>9}\n");
 }

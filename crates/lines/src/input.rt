@@ -1,48 +1,35 @@
 // Standard input, whole.
-ghost use Rattle.std.specs.Prelude.{◌≡◌, ◌≤◌, length};
-
-use crate::print::print;
 use std::io::{Input, Print, Read};
 
-pub fn room() -> [u8; 196608]
-    ensures { 196608 ≡ length result }
-{
-    [0; 196608]
-}
-
-// Fills the room with the input, and answers how many bytes that are: none, where not all of it can be had.
-pub fn read(rt: &(impl Input + Print), text: &mut [u8]) -> usize
-    ensures { result ≤ length text.new }
-{
+// The input, in this room for it: none, where not all of it can be had.
+pub fn read<'a>(rt: &(impl Input + Print), room: &'a mut [u8]) -> &'a [u8] {
     let mut input = rt.reader();
-    let n = fill(&mut input, text);
+    let text = fill(&mut input, room);
     if at_end(&mut input) {
-        return n;
+        return text;
     }
-    print(
-        rt,
-        b"The input is longer than 196608 bytes, or a read failed: nothing was run.\n",
+    let _ = print!(rt;
+        "The input is longer than 196608 bytes, or a read failed: nothing was run.\n"
     );
-    0
+    &[]
 }
 
-// Reads until the room is full, the input ends or a read fails.
-fn fill(input: &mut impl Read, text: &mut [u8]) -> usize
-    ensures { result ≤ length text.new }
-{
+// Reads until the room is full, the input ends or a read fails. What each read brings is counted here: the calls of std that read on to
+// the end want a heap, and no program here has one.
+pub fn fill<'a>(input: &mut impl Read, room: &'a mut [u8]) -> &'a [u8] {
     let mut n = 0;
-    while n < text.len() {
-        let more = input.read(&mut text[n..]).unwrap_or(0);
+    while n < room.len() {
+        let more = input.read(&mut room[n..]).unwrap_or(0);
         if more == 0 {
-            return n;
+            break;
         }
         n += more;
     }
-    n
+    &room[..n]
 }
 
 // Whether the input has ended: one byte more, or a read that fails, says that it has not.
 fn at_end(input: &mut impl Read) -> bool {
-    let mut more = [0u8; 1];
+    let mut more = [0; 1];
     matches!(input.read(&mut more), Ok(0))
 }

@@ -4,7 +4,7 @@
 pub mod c3;
 pub mod counts;
 pub mod input;
-mod print;
+pub mod program;
 pub mod reply;
 pub mod row;
 pub mod source;

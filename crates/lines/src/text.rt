@@ -1,85 +1,66 @@
 // Reading the text. Its lines end at newlines, a line's fields at single spaces.
-ghost use Rattle.std.specs.Prelude.{◌+◌, ◌-◌, ◌≤◌, length};
+ghost use Rattle.std.specs.Prelude.{length};
+ghost use Rattle.std.specs.Iterator.{at_most};
 
-use check::same;
+// Field n of a line, from 0; empty where the line has fewer.
+pub fn field(line: &[u8], n: usize) -> &[u8] {
+    line.split(|c| *c == b' ').nth(n).unwrap_or(&[])
+}
 
-// Where the part that starts at from ends: at the next stop, or at the end of the text.
-fn end_of(text: &[u8], from: usize, stop: u8) -> usize
-    requires { from ≤ length text.now }
-    ensures { (from ≤ result) × (result ≤ length text.now) }
-{
-    let mut at = from;
-    while at < text.len() {
-        if text[at] == stop {
-            return at;
+// The lines of a text. A newline ends the last one: none follows it.
+#[derive(Clone, Copy)]
+pub struct Lines<'a> {
+    pub text: &'a [u8],
+}
+
+impl<'a> Iterator for Lines<'a> {
+    type Item = &'a [u8];
+
+    ghost remaining = { λ s. at_most (length s.text.now) };
+
+    fn next(&mut self) -> Option<&'a [u8]> {
+        let text = self.text;
+        if text.is_empty() {
+            return None;
         }
-        at += 1;
+        let (line, below) = match text.iter().position(|c| *c == b'\n') {
+            Some(end) => (&text[..end], &text[end + 1..]),
+            None => (text, &text[..0]),
+        };
+        self.text = below;
+        Some(line)
     }
-    at
 }
 
-// Where the part after the one that starts at from does: past the stop, or at the end of the text. Less is left there, unless
-// nothing was.
-pub fn past(text: &[u8], from: usize, stop: u8) -> usize
-    ensures { (result ≤ length text.now) × (length text.now - result ≤ length text.now - (from + 1)) }
-{
-    if text.len() < from {
-        return text.len();
-    }
-    let end = end_of(text, from, stop);
-    if end < text.len() { end + 1 } else { end }
+// Which line of a list this one is, from 0.
+pub fn place_of(line: &[u8], list: &[u8]) -> Option<usize> {
+    list.split(|c| *c == b'\n').position(|other| other == line)
 }
 
-// Part n of a text, from 0; empty where the text has fewer.
-pub fn part(text: &[u8], n: usize, stop: u8) -> &[u8] {
-    let mut from = 0;
-    let mut i = 0;
-    while i < n {
-        from = past(text, from, stop);
-        i += 1;
+// The bytes that a field spells, two digits each, where they fill the room for them.
+pub fn read_hex(field: &[u8], out: &mut [u8]) -> Option<()> {
+    let (pairs, rest) = field.as_chunks::<2>();
+    if (pairs.len() != out.len()) | !rest.is_empty() {
+        return None;
     }
-    let end = end_of(text, from, stop);
-    &text[from..end]
+    for (byte, [high, low]) in out.iter_mut().zip(pairs) {
+        *byte = digit(*high)? << 4 | digit(*low)?;
+    }
+    Some(())
 }
 
-// Which of the first count lines of a list this line is, from 0; count, where it is none of them.
-pub fn place_of(line: &[u8], list: &[u8], count: usize) -> usize {
-    let mut n = 0;
-    while n < count {
-        if same(line, part(list, n, b'\n')) {
-            return n;
-        }
-        n += 1;
-    }
-    n
+// The same, of so many bytes.
+pub fn hex<const N: usize>(field: &[u8]) -> Option<[u8; N]> {
+    let mut r = [0; N];
+    read_hex(field, &mut r)?;
+    Some(r)
 }
 
-// Fills out with the bytes that a field spells, two digits each, and answers whether it spells as many. Each digit moves the one
-// before it in its byte up by four bits.
-pub fn read_hex(field: &[u8], out: &mut [u8]) -> bool {
-    if field.len() % 2 != 0 {
-        return false;
-    }
-    if field.len() / 2 != out.len() {
-        return false;
-    }
-    let mut i = 0;
-    while i < field.len() {
-        let value = digit(field[i]);
-        if 15 < value {
-            return false;
-        }
-        out[i / 2] = out[i / 2] % 16 * 16 + value;
-        i += 1;
-    }
-    true
-}
-
-// The value of a hex digit in lower case; 16 where the character is none.
-fn digit(c: u8) -> u8 {
+// The value of a hex digit, in lower case alone: `to_digit` would read capitals too.
+fn digit(c: u8) -> Option<u8> {
     match c {
-        b'0'..=b'9' => c - b'0',
-        b'a'..=b'f' => c - b'a' + 10,
-        _ => 16,
+        b'0'..=b'9' => Some(c - b'0'),
+        b'a'..=b'f' => Some(c - b'a' + 10),
+        _ => None,
     }
 }

@@ -3,7 +3,7 @@
 use mathlib.Core.Path.{◌≡◌, refl, sym, ap, ◌∙◌}
 use mathlib.Core.Bool.{Bool, true, false, cond}
 use mathlib.Core.List.{List, [], ◌∷◌, ◌++◌}
-use Prim.Native.Nat.{ℕ, ◌%◌}
+use Prim.Native.Nat.{ℕ}
 use lib.Dec.{T, eqb, leb, eqb→eq, lit≤}
 use lib.ListN.{length}
 use Rattle.aes.specs.Reply.{Check, ◌else◌, answer, refusal, scheduled, is_schedule, is_input, is_output, is_mask_table, has_byte_offsets, are_offsets, is_step, is_form}
@@ -15,8 +15,9 @@ use Rattle.aes.proofs.Schedule.{full}
 use Rattle.aes.proofs.Replies.{AllHold, telling, all_hold, holds_done, is_true}
 use Rattle.masks.specs.Mask.{one}
 use Rattle.lent.specs.declared.given.Start.{Start}
-use Rattle.lent.specs.Started.{is_one, record_of, Begun}
-use Rattle.lent.proofs.Begun.{Low, begun_lent, record_lent, begun_one, record_one}
+use Rattle.std.specs.Prelude.{None}
+use Rattle.lent.specs.Started.{start_of, record_of}
+use Rattle.lent.proofs.Begun.{Low, record_lent, record_one}
 use Rattle.masked.specs.Calls.{checks, published_checks, record_checks, one_checks}
 
 -- a check that holds is as none, and so is one that was made before
@@ -107,38 +108,39 @@ one_sizes w b out o told e =
     (eqb→eq (length w) 240 h.0, eqb→eq (length b) 16 h.1.0, eqb→eq (length out) 16 h.1.1.0)
 
 -- A call that is let pass: what its run is lent, and what the call answers once the run from its start is done.
-abbrev pub FromLent : Start → List ℕ → Type 0
-FromLent s v = (s.0 ≡ is_one v) × (s.1.0 ≡ cond (is_one v) (one 0) v) × (s.2.0 ≡ cond (is_one v) (at v 0 % 16) 0)
-
 answered : (cs : List Check) → T (telling cs) → (out : List ℕ) (f : List ℕ → List ℕ) {r : ℕ} {p v x : List ℕ} → r ≡ refusal cs → r ≡ 0 → p ≡ v → x ≡ f p → (0, x) ≡ answer cs out (f v)
 answered cs t out f told e start done = (λ i. (0, (done ∙ ap f start) i)) ∙ sym (holds_done out _ cs (all_hold cs t (sym told ∙ e)))
 
--- of one block
-module _ (w b out M v : List ℕ) (d form : ℕ) {r : ℕ} (told : r ≡ refusal (checks w b out M v d form)) (e : r ≡ 0) (s : Start) (from : FromLent s v) where
-  pub block_lent : (scheduled (length w) ≡ true) × (length b ≡ 16) × (length out ≡ 16) × Begun s × (length M ≡ 16)
-  block_lent = let z = sizes w b out M v d form told e in (z.schedule, z.input, z.output, begun_lent s v from, z.masks)
+-- its start is the one that is lent
+begun : {s : Start} {v : List ℕ} → s ≡ start_of v → Low v → record_of s ≡ v
+begun {s} {v} from low = ap record_of from ∙ record_lent v low
 
-  pub block_answer : (f : List ℕ → List ℕ) {x : List ℕ} → x ≡ f (record_of s) → (0, x) ≡ answer (checks w b out M v d form) out (f v)
+-- of one block
+module _ (w b out M v : List ℕ) (d form : ℕ) {r : ℕ} (told : r ≡ refusal (checks w b out M v d form)) (e : r ≡ 0) where
+  pub block_lent : (scheduled (length w) ≡ true) × (length b ≡ 16) × (length out ≡ 16) × (length M ≡ 16)
+  block_lent = let z = sizes w b out M v d form told e in (z.schedule, z.input, z.output, z.masks)
+
+  pub block_answer : {s : Start} → s ≡ start_of v → (f : List ℕ → List ℕ) {x : List ℕ} → x ≡ f (record_of s) → (0, x) ≡ answer (checks w b out M v d form) out (f v)
   unfolding telling
-  block_answer f = answered (checks w b out M v d form) tt out f told e (record_lent s v from (sizes w b out M v d form told e).offsets)
+  block_answer from f = answered (checks w b out M v d form) tt out f told e (begun from (sizes w b out M v d form told e).offsets)
 
 -- of a record
-module _ (size : ℕ) (w b M v : List ℕ) (d : ℕ) (states : List ℕ) {r : ℕ} (told : r ≡ refusal (record_checks size w b M v d states)) (e : r ≡ 0) (s : Start) (from : FromLent s v) where
-  pub states_lent : (scheduled (length w) ≡ true) × (length b ≡ 16) × (length states ≡ size) × Begun s × (length M ≡ 16)
-  states_lent = let z = record_sizes size w b M v d states told e in (z.schedule, z.input, z.room, begun_lent s v from, z.masks)
+module _ (size : ℕ) (w b M v : List ℕ) (d : ℕ) (states : List ℕ) {r : ℕ} (told : r ≡ refusal (record_checks size w b M v d states)) (e : r ≡ 0) where
+  pub states_lent : (scheduled (length w) ≡ true) × (length b ≡ 16) × (length states ≡ size) × (length M ≡ 16)
+  states_lent = let z = record_sizes size w b M v d states told e in (z.schedule, z.input, z.room, z.masks)
 
-  pub states_answer : (f : List ℕ → List ℕ) {x : List ℕ} → x ≡ f (record_of s) → (0, x) ≡ answer (record_checks size w b M v d states) states (f v)
+  pub states_answer : {s : Start} → s ≡ start_of v → (f : List ℕ → List ℕ) {x : List ℕ} → x ≡ f (record_of s) → (0, x) ≡ answer (record_checks size w b M v d states) states (f v)
   unfolding telling
-  states_answer f = answered (record_checks size w b M v d states) tt states f told e (record_lent s v from (record_sizes size w b M v d states told e).offsets)
+  states_answer from f = answered (record_checks size w b M v d states) tt states f told e (begun from (record_sizes size w b M v d states told e).offsets)
 
 -- with one offset
-module _ (w b out : List ℕ) (o : ℕ) {r : ℕ} (told : r ≡ refusal (one_checks w b out o)) (e : r ≡ 0) (s : Start) (from : (s.0 ≡ true) × (s.1.0 ≡ one 0) × (s.2.0 ≡ o % 16)) where
-  pub one_lent : (scheduled (length w) ≡ true) × (length b ≡ 16) × (length out ≡ 16) × Begun s
-  one_lent = let z = one_sizes w b out o told e in ((full w z.0).0, z.1, z.2, begun_one s o from)
+module _ (w b out : List ℕ) (o : ℕ) {r : ℕ} (told : r ≡ refusal (one_checks w b out o)) (e : r ≡ 0) where
+  pub one_lent : (scheduled (length w) ≡ true) × (length b ≡ 16) × (length out ≡ 16)
+  one_lent = let z = one_sizes w b out o told e in ((full w z.0).0, z.1, z.2)
 
   pub one-rounds : rounds_of w ≡ 14
   one-rounds = (full w (one_sizes w b out o told e).0).1
 
-  pub one_answer : (f : List ℕ → List ℕ) {x : List ℕ} → x ≡ f (record_of s) → (0, x) ≡ answer (one_checks w b out o) out (f (one o))
+  pub one_answer : {s : Start} → s ≡ record { offsets = None; on = o } → (f : List ℕ → List ℕ) {x : List ℕ} → x ≡ f (record_of s) → (0, x) ≡ answer (one_checks w b out o) out (f (one o))
   unfolding telling
-  one_answer f = answered (one_checks w b out o) tt out f told e (record_one s o from)
+  one_answer from f = answered (one_checks w b out o) tt out f told e (ap record_of from ∙ record_one o)

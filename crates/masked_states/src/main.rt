@@ -7,46 +7,26 @@ mod record;
 mod table;
 
 use covers::trial::Trial;
-use lines::counts::{CELLS, report};
-use lines::input::{read, room};
-use lines::source::{Kind, kind_of};
-use lines::text::{part, past};
+use lines::counts::Counts;
+use lines::source::Source;
 use lines::vector::Way;
-use record::tried;
-use std::io::Print;
+use table::Row;
 
 fn main(rt: HostRuntime) {
-    let mut text = room();
-    let n = read(&rt, &mut text);
-    let mut counts = [0u64; CELLS];
-    run(&rt, &text[0..n], &mut counts);
-    table::print(&rt, &counts);
+    lines::program::run(&rt, table::TITLE, &table::ROWS, one_line);
 }
 
-// Of either record.
-fn step(line: &[u8], counts: &mut [u64; CELLS]) -> bool {
-    let trial = Trial::of_step(line);
-    tried(Way::Encrypt, 0, trial, table::STEPS, counts);
-    tried(Way::Decrypt, 0, trial, table::STEPS, counts)
-}
-
-// Runs the first line of a text, and answers whether it could be read.
-fn one_line(text: &[u8], counts: &mut [u64; CELLS]) -> bool {
-    let line = part(text, 0, b'\n');
-    let kind = kind_of(line, counts);
-    match kind {
-        Kind::Header => true,
-        Kind::Rounds => c3::state(Way::Encrypt, line, counts),
-        Kind::InverseRounds => c3::state(Way::Decrypt, line, counts),
-        Kind::Step => step(line, counts),
-        _ => false,
-    }
-}
-
-fn run(rt: &impl Print, text: &[u8], counts: &mut [u64; CELLS]) {
-    let mut at = 0;
-    while at < text.len() {
-        report(rt, one_line(&text[at..], counts), counts);
-        at = past(text, at, b'\n');
+fn one_line(source: Source, line: &[u8], _below: &[u8], counts: &mut Counts) -> Option<()> {
+    match source {
+        Source::Rounds(way) => c3::state(way, line, counts),
+        Source::Step => {
+            let trial = Trial::of_step(line)?;
+            // Of either record.
+            for way in [Way::Encrypt, Way::Decrypt] {
+                counts.add(Row::Steps as usize, record::run(way, 0, &trial));
+            }
+            Some(())
+        }
+        _ => None,
     }
 }

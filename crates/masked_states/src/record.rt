@@ -1,10 +1,12 @@
 // The calls that record a masked run.
-ghost use Rattle.std.specs.Prelude.{◌≡◌, ◌≤◌, ◌-◌};
+ghost use Rattle.std.specs.Prelude.{◌≤◌};
 
+use covers::answer::{Answer, answer};
+use covers::labels::Labels;
 use covers::state::over_state;
 use covers::trial::Trial;
 use lines::c3::state_at;
-use lines::counts::{CELLS, add};
+use lines::counts::Tally;
 use lines::vector::Way;
 use masked::{record_masked, record_masked_decryption};
 
@@ -18,33 +20,29 @@ pub fn length(way: Way) -> usize
     }
 }
 
-// What is handed on as written is the recorded state of this number, without the mask that should lie over it.
-fn answered(way: Way, place: usize, trial: Trial) -> Trial
-    ensures { result.left ≡ trial.left - 1 }
-{
-    let schedule = trial.schedule;
-    let masks = trial.masks;
-    let block = trial.block;
-    let labels = trial.labels();
-    let offsets = labels.record();
-    let step = labels.step;
-    let mut room = [0u8; 1360];
-    let n = length(way);
-    let record = &mut room[0..n];
-    let reply = match way {
-        Way::Encrypt => record_masked(&schedule, &block, &masks, &offsets, step, record),
-        Way::Decrypt => record_masked_decryption(&schedule, &block, &masks, &offsets, step, record),
-    };
-    let mask = over_state(way, masks, labels, place);
-    trial.after(reply, aes::add(state_at(record, place), mask))
+// What comes of all calls, each for the recorded state of this number.
+pub fn run(way: Way, place: usize, trial: &Trial) -> Tally {
+    trial.run(|trial, block, labels| recorded(way, place, trial, block, labels))
 }
 
-// Counts in its row what came of all calls, and answers whether the line could be read.
-pub fn tried(way: Way, place: usize, first: Trial, row: usize, counts: &mut [u64; CELLS]) -> bool {
-    let mut trial = first;
-    while 0 < trial.left {
-        trial = answered(way, place, trial);
-    }
-    add(counts, row, trial.tally);
-    first.read
+// What is handed on as written is the state without the mask that should lie over it.
+fn recorded(way: Way, place: usize, trial: &Trial, block: &[u8; 16], labels: Labels) -> Answer {
+    let schedule = trial.schedule.bytes();
+    let masks = trial.masks;
+    let offsets = labels.record();
+    let step = labels.step;
+    answer(|output| {
+        let mut room = [0; 1360];
+        let record = &mut room[..length(way)];
+        match way {
+            Way::Encrypt => record_masked(schedule, block, &masks, &offsets, step, record),
+            Way::Decrypt => {
+                record_masked_decryption(schedule, block, &masks, &offsets, step, record)
+            }
+        }?;
+        if let Some(state) = state_at(record, place) {
+            *output = aes::add(state, over_state(way, masks, labels, place));
+        }
+        Ok(())
+    })
 }

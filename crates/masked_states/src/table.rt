@@ -1,28 +1,32 @@
-// The rows of the table, and the table before anything is counted.
-use lines::counts::{CELLS, print_table};
+// The rows of the table.
 use lines::vector::Way;
-use std::io::Print;
 
-pub const STEPS: usize = 4;
-
-// The row of the states of a record, over the published masks or over others.
-pub fn row(way: Way, other: bool) -> usize {
-    match way {
-        Way::Encrypt => if other { 1 } else { 0 },
-        Way::Decrypt => if other { 3 } else { 2 },
-    }
+#[derive(Clone, Copy)]
+pub enum Row {
+    Published,
+    Other,
+    PublishedInverse,
+    OtherInverse,
+    Steps,
 }
 
-pub fn print(rt: &impl Print, counts: &[u64; CELLS]) {
-    let mut table = *b"\
-AES-256 vectors, recorded masked runs          run   differ
-  published masks: C.3 states                    0        0
-  other masks: C.3 states                        0        0
-  published masks: C.3 inverse states            0        0
-  other masks: C.3 inverse states                0        0
-  replies to a step                              0        0
-  all                                            0        0
-lines that could not be read                     0
-";
-    print_table(rt, &mut table, counts);
+pub const TITLE: &str = "AES-256 vectors, recorded masked runs";
+
+// The names of the rows, in their order.
+pub const ROWS: [&str; 5] = [
+    "published masks: C.3 states",
+    "other masks: C.3 states",
+    "published masks: C.3 inverse states",
+    "other masks: C.3 inverse states",
+    "replies to a step",
+];
+
+impl Row {
+    // Those of the states of a record, over the published masks and over others.
+    pub fn of(way: Way) -> (Row, Row) {
+        match way {
+            Way::Encrypt => (Row::Published, Row::Other),
+            Way::Decrypt => (Row::PublishedInverse, Row::OtherInverse),
+        }
+    }
 }

@@ -6,79 +6,31 @@ mod calls;
 mod many;
 mod table;
 
-use calls::{Call, tried};
-use covers::trial::{Asked, Trial};
-use lines::counts::{CELLS, add, report};
-use lines::input::{read, room};
+use covers::trial::Trial;
+use lines::counts::Counts;
 use lines::row;
-use lines::source::{Kind, kind_of};
-use lines::text::{part, past};
-use lines::vector::Way;
-use std::io::Print;
+use lines::source::Source;
+use lines::vector::{Vector, Way};
+use table::Row;
 
 fn main(rt: HostRuntime) {
-    let mut text = room();
-    let n = read(&rt, &mut text);
-    let mut counts = [0u64; CELLS];
-    run(&rt, &text[0..n], &mut counts);
-    table::print(&rt, &counts);
+    lines::program::run(&rt, table::TITLE, &table::ROWS, one_line);
 }
 
-// One by one, and all of a row together.
-fn ecb(text: &[u8], counts: &mut [u64; CELLS]) -> bool {
-    let trial = Trial::of_vector(Asked::Block, Way::Encrypt, part(text, 0, b'\n'));
-    let length = trial.length;
-    let k = length.row();
-    if trial.read {
-        add(
-            counts,
-            table::MANY_ECB + k,
-            many::encrypted(row::read(text)),
-        );
+// By either call of one block; and the vectors of ECB all of a row together, and a step, by that of many.
+fn one_line(source: Source, line: &[u8], below: &[u8], counts: &mut Counts) -> Option<()> {
+    let trial = Trial::of_line(source, Way::Encrypt, line)?;
+    let length = trial.schedule.length;
+    let (published, other) = Row::of(source, length);
+    counts.add(published as usize, trial.run(calls::published));
+    counts.add(other as usize, trial.run(calls::masked));
+    match source {
+        Source::Ecb => {
+            let row = row::Row::of(Vector::read(line)?, below);
+            counts.add(Row::of_many(length) as usize, many::encrypted(&row));
+        }
+        Source::Step => counts.add(Row::Steps as usize, trial.run(many::replied)),
+        _ => {}
     }
-    either(
-        trial,
-        table::PUBLISHED_ECB + k,
-        table::OTHER_ECB + k,
-        counts,
-    )
-}
-
-// By each call.
-fn step(line: &[u8], counts: &mut [u64; CELLS]) -> bool {
-    let trial = Trial::of_step(line);
-    tried(Call::Many, trial, table::STEPS, counts);
-    either(trial, table::STEPS, table::STEPS, counts)
-}
-
-// Runs the first line of a text, and answers whether it could be read.
-fn one_line(text: &[u8], counts: &mut [u64; CELLS]) -> bool {
-    let line = part(text, 0, b'\n');
-    let kind = kind_of(line, counts);
-    match kind {
-        Kind::Header => true,
-        Kind::Ecb => ecb(text, counts),
-        Kind::EncryptedChain => either(
-            Trial::of_vector(Asked::Chain, Way::Encrypt, line),
-            table::PUBLISHED_CHAINS,
-            table::OTHER_CHAINS,
-            counts,
-        ),
-        Kind::Step => step(line, counts),
-        _ => false,
-    }
-}
-
-// By either call of one block, each counted in its row.
-fn either(trial: Trial, published: usize, other: usize, counts: &mut [u64; CELLS]) -> bool {
-    tried(Call::Published, trial, published, counts);
-    tried(Call::Masked, trial, other, counts)
-}
-
-fn run(rt: &impl Print, text: &[u8], counts: &mut [u64; CELLS]) {
-    let mut at = 0;
-    while at < text.len() {
-        report(rt, one_line(&text[at..], counts), counts);
-        at = past(text, at, b'\n');
-    }
+    Some(())
 }

@@ -1,35 +1,49 @@
 // The call that encrypts many blocks.
-use aes::reply::DONE;
-use check::same;
-use covers::key::{expanded, lent};
+use aes::reply::Refusal;
+use covers::answer::Answer;
+use covers::key::Schedule;
 use covers::labels::{ALL, Labels, turned};
+use covers::trial::Trial;
 use lines::counts::Tally;
 use lines::row::Row;
 
 // All vectors of a row in one call, with all labels of the first.
-pub fn encrypted(row: Row) -> Tally {
-    let first = row.first;
-    let key = first.key;
-    let length = first.length;
-    let schedule = expanded(length, key);
-    let mut tally = Tally::none();
-    let mut i = 0;
-    while i < ALL {
-        tally = tally.with(encrypts(lent(&schedule, length), turned(i), row));
-        i += 1;
-    }
-    tally
+pub fn encrypted(row: &Row) -> Tally {
+    let schedule = Schedule::of(&row.key);
+    (0..ALL).fold(Tally::default(), |tally, i| {
+        tally.with(encrypts(&schedule, turned(i), row))
+    })
 }
 
-fn encrypts(schedule: &[u8], labels: Labels, row: Row) -> bool {
-    let plain = row.plain;
-    let cipher = row.cipher;
-    let mut output = [0u8; 256];
-    let reply = answer(schedule, &plain, labels, &mut output);
-    (reply == DONE) & same(&output, &cipher)
+fn encrypts(schedule: &Schedule, labels: Labels, row: &Row) -> bool {
+    let mut output = [[0; 16]; 16];
+    let done = answer(
+        schedule,
+        row.plain.as_flattened(),
+        labels,
+        output.as_flattened_mut(),
+    );
+    done.is_ok() & (output == row.cipher)
 }
 
-// What the call replies.
-pub fn answer(schedule: &[u8], input: &[u8; 256], labels: Labels, output: &mut [u8]) -> u8 {
-    masked::encrypt_blocks(schedule, input, output, &labels.offsets(), labels.step, 0)
+// What the call replies is all that a step asks of it.
+pub fn replied(trial: &Trial, _block: &[u8; 16], labels: Labels) -> Answer {
+    answer(&trial.schedule, &[0; 256], labels, &mut [0; 256])?;
+    Ok([0; 16])
+}
+
+fn answer(
+    schedule: &Schedule,
+    input: &[u8],
+    labels: Labels,
+    output: &mut [u8],
+) -> Result<(), Refusal> {
+    masked::encrypt_blocks(
+        schedule.bytes(),
+        input,
+        output,
+        &labels.offsets(),
+        labels.step,
+        0,
+    )
 }

@@ -104,7 +104,7 @@ module _ (k : Kind) (M v : List ℕ) where
   abbrev pub constant : ℕ → List ℕ
   constant n = constant_of k (mask M v n)
 
-  sized : (n : ℕ) → length (constant n) ≡ 16
+  pub sized : (n : ℕ) → length (constant n) ≡ 16
   sized n = kind_sized k (mask M v n)
 
   pub first_four : in_row constant 4 ≡ table (row_byte constant) 64

@@ -1,4 +1,5 @@
 pub mod Row
+pub mod Copied
 pub mod Counted
 pub mod Stored
 pub mod Columns

@@ -1,29 +1,23 @@
 -- What lies in rows of sixteen, label after label: where boxes begin, the masks over a state, and constants that are made of these.
 -- Assumes nothing.
-use mathlib.Core.Path.{◌≡◌, refl, sym, ap, ap₂, ◌∙◌}
+use mathlib.Core.Path.{◌≡◌, refl, sym, ap, ◌∙◌}
 use mathlib.Core.List.{List}
-use Prim.Native.Nat.{ℕ, ◌+◌, ◌*◌, ◌/◌, ◌%◌, ◌≤◌, ◌<◌}
-use native.Mathlib.Nat.{zero-add}
+use Prim.Native.Nat.{ℕ, ◌+◌, ◌-◌, ◌*◌, ◌/◌, ◌%◌, ◌≤◌, ◌<◌}
 use native.Mathlib.Omega.{arith}
 use native.Mathlib.Decide.{ℕ_discrete}
-use lib.ListN.{length, set, length-set}
+use lib.ListN.{length, take, drop, set, length-set}
 use lib.Seq.{get_or-set_same, get_or-set_other, ext_get_or}
-use Rattle.aes.specs.Byte.{◌⊕◌, table}
+use Rattle.aes.specs.Byte.{table}
 use Rattle.aes.specs.State.{at}
 use Rattle.aes.specs.Key.{round_key}
-use Rattle.aes.specs.Held.{Holds}
 use Rattle.aes.proofs.Listed.{table_at, table-length, table_same}
-use Rattle.aes.proofs.Part.{holds_none, holds_all}
-use Rattle.aes.proofs.Xor.{xor_zero}
-use Rattle.masks.specs.declared.constants.Kind.{Kind}
-use Rattle.masks.specs.Kinds.{constant_of}
 use Rattle.masks.specs.Mask.{one, twice, label, mask, covers_of, constants, constants_of}
 use Rattle.masks.specs.Order.{boxes_at, places_of, places_at}
-use Rattle.masks.specs.Parts.{Further}
+use Rattle.masks.proofs.Copied.{sixteen}
 use Rattle.masks.proofs.Row.{row_same}
-use Rattle.masks.proofs.Counted.{one_at, boxes_below}
-use Rattle.masks.proofs.Stored.{row_state}
-use Rattle.masks.proofs.Columns.{row_byte, row_bytes, row_byte_lem, kind_sized}
+use Rattle.masks.proofs.Counted.{boxes_below}
+use Rattle.masks.proofs.Stored.{row_state, laid_out}
+use Rattle.masks.proofs.Columns.{row_byte, row_bytes, row_byte_lem}
 
 -- where the boxes begin
 places_size : (v : List ℕ) (k : ℕ) → length (boxes_at v k) ≡ 16
@@ -52,7 +46,7 @@ place_is v k i h = far (at v i) ∙ sym (table_at (λ i. 256 * label v k i) 16 i
     far a = omega arith
 
 -- the masks over a state
-mask_size : (M v : List ℕ) (k : ℕ) → length (mask M v k) ≡ 16
+pub mask_size : (M v : List ℕ) (k : ℕ) → length (mask M v k) ≡ 16
 unfolding mask table
 mask_size M v k = refl
 
@@ -70,19 +64,17 @@ unfolding mask table
 cover_is M v k i hk hi =
     table_at (λ j. at M (j % 16)) 32 (at v i % 16 + k) (omega (arith, hk)) ∙ ap (at M) (omega arith) ∙ sym (table_at (λ i. at M (label v k i)) 16 i hi)
 
-pub first_is : (M : List ℕ) (k i : ℕ) → k < 16 → i < 16 → at (twice M) (k + i) ≡ at (mask M (one 0) k) i
-first_is M k i hk hi = ap (at (twice M)) (same ∙ ap (λ (a : ℕ). a % 16 + k) (sym (one_at 0 i hi))) ∙ cover_is M (one 0) k i hk hi
-  where
-    same : k + i ≡ (0 + i) % 16 % 16 + k
-    same = omega (arith, hk, hi)
+-- and from a label on sixteen of these in a row
+pub first_is : (M : List ℕ) (n : ℕ) {t : List ℕ} → t ≡ twice M → n < 16 → take (n + 16 - n) (drop n t) ≡ mask M (one 0) n
+first_is M n e lt =
+    let room : n + 16 ≤ length (twice M) = rw (table-length (λ i. at M (i % 16)) 32) (omega (arith, lt)) in
+    let small : n % 16 ≡ n = omega (arith, lt) in
+    ap (λ (s : List ℕ). take (n + 16 - n) (drop n s)) e ∙ sixteen (twice M) n room ∙ rw small at (laid_out M n)
 
 -- rows as they are filled column by column: of columns 0 to 15, each from above, the first n entries
 pub record Down (g : ℕ → List ℕ) (n : ℕ) (r : List ℕ) : Type 0 where
   pub room : length r ≡ 256
   pub so_far : (k i : ℕ) → k < 16 → i < 16 → 16 * i + k < n → at r (16 * k + i) ≡ at (g k) i
-
-pub down_none : {g : ℕ → List ℕ} {r : List ℕ} → length r ≡ 256 → Down g 0 r
-down_none e = record { room = e; so_far = λ k i hk hi h. absurd (omega (arith, h)) }
 
 pub down_more : {g : ℕ → List ℕ} {r : List ℕ} {n v : ℕ} (k i : ℕ) → k < 16 → i < 16 → n ≡ 16 * i + k → v ≡ at (g k) i → Down g n r
     → Down g (n + 1) (set r (16 * k + i) v)
@@ -108,28 +100,6 @@ down_all {g} {r} {n} d h =
     let below : y < 256 = omega (arith, lt, d.room) in
     let e : y ≡ 16 * (y / 16) + y % 16 = omega arith in
     ap (at r) e ∙ d.so_far (y / 16) (y % 16) (omega (arith, below)) (omega arith) (omega (arith, below, h)) ∙ sym (table_at (row_byte g) 256 y below))
-
--- constants of masks that lie there, so many of them made
-abbrev pub worked : Kind → List ℕ → ℕ → List ℕ
-worked k c n = constant_of k (round_key c n)
-
-abbrev pub Made : Kind → List ℕ → ℕ → List ℕ → Type 0
-Made k c n r = Holds 256 (table (row_byte (worked k c)) (16 * n)) r
-
-pub made_none : (k : Kind) (c r : List ℕ) → length r ≡ 256 → Made k c 0 r
-unfolding table
-made_none k c r size = holds_none 256 r size
-
-pub made_more : (k : Kind) (c m x r s : List ℕ) (n : ℕ) → m ≡ round_key c n → x ≡ constant_of k m
-    → Further r s (16 * n) (16 * n + 16) (λ f. (i : ℕ) → i < 16 → at x (0 + i) ⊕ 0 ≡ f (16 * n + i)) → Made k c n r → Made k c (n + 1) s
-made_more k c m x r s n e ex more h =
-    let g : ℕ → List ℕ = worked k c in
-    let next : 16 * n + 16 ≡ 16 * (n + 1) = omega arith in
-    rw next at (more.1 256 (row_byte g) h (λ i hi. xor_zero _ ∙ ap₂ at (ex ∙ ap (constant_of k) e) (zero-add i) ∙ row_byte_lem g n i hi))
-
-pub made_all : (k : Kind) (c r : List ℕ) → Made k c 16 r → r ≡ constants_of (constant_of k) c
-unfolding constants_of
-made_all k c r h = holds_all 256 _ r h (table-length (row_byte (worked k c)) 256) ∙ sym (row_bytes (worked k c) (λ n. kind_sized k (round_key c n)) 16)
 
 pub room : (n : ℕ) → n < 16 → 16 * n + 16 ≤ 256
 room n lt = omega (arith, lt)

@@ -5,7 +5,7 @@ use mathlib.Core.List.{List}
 use Prim.Native.Nat.{ℕ, ◌+◌, ◌-◌, ◌*◌, ◌/◌, ◌%◌, ◌≤◌, ◌<◌}
 use native.Mathlib.Omega.{arith}
 use lib.Dec.{lit<}
-use lib.ListN.{length, take, set}
+use lib.ListN.{length, take}
 use lib.Bits.{xor_shr, xor_mod, xor_lt}
 use lib.Seq.{length-take-le, get_or-take, ext_get_or}
 use Rattle.aes.specs.Byte.{◌⊕◌, table}
@@ -14,8 +14,8 @@ use Rattle.aes.specs.Held.{Holds}
 use Rattle.aes.proofs.Listed.{table_at, table-length, table_same, agree}
 use Rattle.aes.proofs.Xor.{xor_zero, xor_assoc, xor_byte}
 use Rattle.aes.proofs.Part.{holds_read}
-use Rattle.aes.proofs.Fill.{Filled, filled_more}
-use Rattle.masks.specs.Parts.{turned_table, Pairs, Exchanged}
+use Rattle.aes.proofs.Fill.{Filled}
+use Rattle.masks.specs.Parts.{turned_table, Exchanged}
 
 pub holds_filled : {f : ℕ → ℕ} {n i : ℕ} {r : List ℕ} → i ≤ n → Holds n (table f i) r → Filled f n i r
 holds_filled {f} {n} {i} {r} le h =
@@ -35,10 +35,6 @@ filled_holds {f} {n} {i} {r} p =
           (ext_get_or 0 (take i r) (table f i) (size ∙ sym (table-length f i))
           (λ k lt. let below : k < i = omega (arith, lt, size) in get_or-take i r k 0 below ∙ p.so_far k below ∙ sym (table_at f i k below)));
     }
-
--- one more entry behind the first a + i
-pub filled_step : {f : ℕ → ℕ} {n v : ℕ} {r : List ℕ} (a i : ℕ) → Filled f n (a + i) r → a + i < n → v ≡ f (a + i) → Filled f n (a + (i + 1)) (set r (a + i) v)
-filled_step a i h lt e = let next : a + (i + 1) ≡ a + i + 1 = omega arith in rw next (filled_more h lt e)
 
 -- two numbers are the same by their digits of sixteen
 by_nibbles : (x y : ℕ) → x / 16 ≡ y / 16 → x % 16 ≡ y % 16 → x ≡ y
@@ -108,15 +104,12 @@ first_table f x lt =
     ap f (sym (ap₂ (◌⊕◌) low high ∙ xor_zero x))
 
 -- the second has its neighbours exchanged
-pub neighbour : (x : ℕ) → 256 ≤ x → x < 512 → (x - 256) ⊕ 1 < 256
-neighbour x le lt = xor_byte (x - 256) 1 (omega (arith, le, lt)) (lit< tt)
-
-pub second_table : (f : ℕ → ℕ) (x : ℕ) → 256 ≤ x → x < 512 → turned_table f ((x - 256) ⊕ 1) ≡ turned_table f x
+pub second_table : (f : ℕ → ℕ) (x : ℕ) → x < 256 → f (x ⊕ 1) ≡ turned_table f (256 + x)
 unfolding turned_table
-second_table f x le lt =
-    let low : x % 256 ≡ x - 256 = omega (arith, le, lt) in
-    let high : x / 256 ≡ 1 = omega (arith, le, lt) in
-    sym (first_table f ((x - 256) ⊕ 1) (neighbour x le lt)) ∙ ap f (sym (ap₂ (◌⊕◌) low high))
+second_table f x lt =
+    let low : (256 + x) % 256 ≡ x = omega (arith, lt) in
+    let high : (256 + x) / 256 ≡ 1 = omega (arith, lt) in
+    ap f (sym (ap₂ (◌⊕◌) low high))
 
 -- where an entry is taken from, and the one k away in its pair
 abbrev index : ℕ → ℕ
@@ -127,16 +120,15 @@ partner k q = q + k - 2 * k * (q % (2 * k) / k)
 
 -- Pairs of k bytes: from `end` on the tables have what they have before it, exchanged. k is a power of two below sixteen, which
 -- small tests tell: below k sums with k carry nothing, and below sixteen a sum with k is the partner.
-pub record Doubling (k end : ℕ) : Type 0 where
-  pub pairs : Pairs k end
-  pub exchanged : (f : ℕ → ℕ) → Exchanged k end (turned_table f)
+abbrev pub Doubling : ℕ → ℕ → Type 0
+Doubling k end = (f : ℕ → ℕ) → Exchanged k end (turned_table f)
 
 regroup : (q k d : ℕ) → d ≤ q % 16 + k → q + k - d ≡ 16 * (q / 16) + (q % 16 + k - d)
 regroup q k d le = omega (arith, le)
 
 module _ (k end : ℕ) (small : k < 16) (whole : end ≡ 256 * k) (sums : table (λ j. k + j) k ≡ table (λ j. k ⊕ j) k)
     (lows : table (λ i. i ⊕ k) 16 ≡ table (partner k) 16) (same : (q : ℕ) → q % 16 % (2 * k) ≡ q % (2 * k))
-    (bound : (q : ℕ) → 2 * k * (q % (2 * k) / k) ≤ q % 16 + k) (fill : Pairs k end)
+    (bound : (q : ℕ) → 2 * k * (q % (2 * k) / k) ≤ q % 16 + k) (fill : (y : ℕ) → y < end → y % (2 * k) ≡ 0 → y + 2 * k ≤ end)
     (away : (y i : ℕ) → y % (2 * k) ≡ 0 → i < k → (partner k (y + i) ≡ y + k + i) × (partner k (y + k + i) ≡ y + i)) where
   low_digit : k % 16 ≡ k
   low_digit = omega (arith, small)
@@ -177,25 +169,22 @@ module _ (k end : ℕ) (small : k < 16) (whole : end ≡ 256 * k) (sums : table 
       ∙ xor_assoc x k j
       ∙ sym (ap index (sym s) ∙ ap₂ (◌⊕◌) low (high ∙ agree (λ i. k + i) (λ i. k ⊕ i) k sums j hj))
 
-  tables : (f : ℕ → ℕ) → Exchanged k end (turned_table f)
+  doubling : Doubling k end
   unfolding turned_table
-  tables f y i lt m hi =
-      let room = (fill y lt m).0 in (
+  doubling f y i lt m hi =
+      let room = fill y lt m in (
         ap f (beyond (y + i) (y + k + i) (end + y + i) (omega (arith, room, hi)) (away y i m hi).0 (omega arith)),
         ap f (beyond (y + k + i) (y + i) (end + y + k + i) (omega (arith, room, hi)) (away y i m hi).1 (omega arith)),
       )
 
-  doubling : Doubling k end
-  doubling = record { pairs = fill; exchanged = tables }
-
 pub by_two : Doubling 2 512
 unfolding table
-by_two = doubling 2 512 (lit< tt) refl refl refl (λ q. omega arith) (λ q. omega arith) (λ y lt m. (omega (arith, lt, m), omega (arith, m))) (λ y i m hi. (omega (arith, m, hi), omega (arith, m, hi)))
+by_two = doubling 2 512 (lit< tt) refl refl refl (λ q. omega arith) (λ q. omega arith) (λ y lt m. omega (arith, lt, m)) (λ y i m hi. (omega (arith, m, hi), omega (arith, m, hi)))
 
 pub by_four : Doubling 4 1024
 unfolding table
-by_four = doubling 4 1024 (lit< tt) refl refl refl (λ q. omega arith) (λ q. omega arith) (λ y lt m. (omega (arith, lt, m), omega (arith, m))) (λ y i m hi. (omega (arith, m, hi), omega (arith, m, hi)))
+by_four = doubling 4 1024 (lit< tt) refl refl refl (λ q. omega arith) (λ q. omega arith) (λ y lt m. omega (arith, lt, m)) (λ y i m hi. (omega (arith, m, hi), omega (arith, m, hi)))
 
 pub by_eight : Doubling 8 2048
 unfolding table
-by_eight = doubling 8 2048 (lit< tt) refl refl refl (λ q. omega arith) (λ q. omega arith) (λ y lt m. (omega (arith, lt, m), omega (arith, m))) (λ y i m hi. (omega (arith, m, hi), omega (arith, m, hi)))
+by_eight = doubling 8 2048 (lit< tt) refl refl refl (λ q. omega arith) (λ q. omega arith) (λ y lt m. omega (arith, lt, m)) (λ y i m hi. (omega (arith, m, hi), omega (arith, m, hi)))

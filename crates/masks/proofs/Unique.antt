@@ -3,24 +3,23 @@
 use mathlib.Core.Path.{◌≡◌, refl, sym, ◌∙◌}
 use mathlib.Core.List.{List}
 use Prim.Native.Nat.{ℕ}
-use Rattle.aes.specs.declared.reply.Valued.{Valued}
-use Rattle.aes.proofs.Unique.{Unique, UniqueWriting, both}
+use Rattle.aes.proofs.Outcomes.{told, told_value_beside}
+use Rattle.aes.proofs.Unique.{Unique, UniqueWriting}
 use Rattle.masks.specs.declared.label.Label.{Label}
 use Rattle.masks.specs.declared.label.Offsets.{Offsets}
 use Rattle.masks.proofs.answers.answers.Reads as answers
 use Rattle.masks.proofs.boxes.made.Reads as made
 use Rattle.masks.proofs.boxes.made_inverse.Reads as made-inverse
-use Rattle.masks.proofs.constants.compensations_of.Reads as compensations-of
-use Rattle.masks.proofs.constants.corrections_of.Reads as corrections-of
-use Rattle.masks.proofs.constants.covers_at.Reads as covers_at
 use Rattle.masks.proofs.constants.first_covers.Reads as first-covers
 use Rattle.masks.proofs.constants.made.Reads as constants-made
 use Rattle.masks.proofs.constants.mask.Reads as mask
+use Rattle.masks.proofs.constants.of_covers.Reads as of-covers
 use Rattle.masks.proofs.constants.published.Reads as published
 use Rattle.masks.proofs.constants.twice.Reads as twice
 use Rattle.masks.proofs.label.Label.make.Reads as make
 use Rattle.masks.proofs.label.Label.next.Reads as next
 use Rattle.masks.proofs.label.Label.read.Reads as read
+use Rattle.masks.proofs.label.Offsets.covers.Reads as covers
 use Rattle.masks.proofs.label.Offsets.make.Reads as offsets-make
 use Rattle.masks.proofs.label.Offsets.of_zero.Reads as of_zero
 use Rattle.masks.proofs.label.Offsets.places.Reads as places
@@ -71,14 +70,11 @@ offsets_places_unique κs args e f x y p q = (refl, p ∙ sym q)
 pub first_covers_unique : UniqueWriting first-covers.Post (λ κs e. e.1.0.now)
 first_covers_unique κs args e f x y p q = (refl, p ∙ sym q)
 
-pub covers_at_unique : UniqueWriting covers_at.Post (λ κs e. e.1.1.0.now)
-covers_at_unique κs args e f x y p q = (refl, p ∙ sym q)
+pub offsets_covers_unique : UniqueWriting covers.Post (λ κs e. e.1.1.0.now)
+offsets_covers_unique κs args e f x y p q = (refl, p ∙ sym q)
 
-pub compensations_of_unique : UniqueWriting compensations-of.Post (λ κs e. e.1.0.now)
-compensations_of_unique κs args e f x y p q = (refl, p ∙ sym q)
-
-pub corrections_of_unique : UniqueWriting {Held = List ℕ × List ℕ} corrections-of.Post (λ κs e. (e.1.0.now, e.1.1.0.now))
-corrections_of_unique κs args e f x y p q = (refl, λ i. ((p.0 ∙ sym q.0) i, (p.1 ∙ sym q.1) i))
+pub of_covers_unique : UniqueWriting of-covers.Post (λ κs e. e.1.1.0.now)
+of_covers_unique κs args e f x y p q = (refl, p ∙ sym q)
 
 pub constants_made_unique : UniqueWriting constants-made.Post (λ κs e. e.1.1.0.now)
 constants_made_unique κs args e f x y p q = (refl, p ∙ sym q)
@@ -89,18 +85,11 @@ made_inverse_unique κs args e f x y p q = (refl, p ∙ sym q)
 pub made_unique : UniqueWriting made.Post (λ κs e. e.1.1.0.now)
 made_unique κs args e f x y p q = (refl, p ∙ sym q)
 
--- where a value stands beside the reply
-valued_beside : (x y : Valued) (a b : List ℕ) (z : ℕ × (ℕ × List ℕ))
-    → ◌≡◌ {A = ℕ × (ℕ × List ℕ)} (x.number, (x.value, a)) z → ◌≡◌ {A = ℕ × (ℕ × List ℕ)} (y.number, (y.value, b)) z → (x ≡ y) × (a ≡ b)
-valued_beside x y a b z p q =
-    let e : ◌≡◌ {A = ℕ × (ℕ × List ℕ)} (x.number, (x.value, a)) (y.number, (y.value, b)) = p ∙ sym q in
-    (λ i. record { number = (e i).0; value = (e i).1.0 }, λ i. (e i).1.1)
-
 pub read_sheet_unique : UniqueWriting read-sheet.Post (λ κs e. e.1.0.now)
-read_sheet_unique κs args e f x y p q = valued_beside x y _ _ _ p q
+read_sheet_unique κs args e f x y p q = told_value_beside x y _ _ _ p q
 
 pub write_sheet_unique : UniqueWriting write-sheet.Post (λ κs e. e.1.1.0.now)
-write_sheet_unique κs args e f x y p q = both x y _ _ _ p q
+write_sheet_unique κs args e f x y p q = told x y _ _ _ p q
 
 pub taken_unique : Unique step-taken.Post
 taken_unique κs args exit x y p q = p ∙ sym q

@@ -1,10 +1,12 @@
 // A state position, a label, and the offsets of sixteen bytes. Each is a type whose number this file alone reads and makes, so that one
 // given for another does not compile. A label is counted modulo 16, and what other crates call asks nothing of its caller; where a number
 // is below 16 already its remainder costs nothing.
-ghost use Rattle.std.specs.Prelude.{◌≡◌, List, ℕ, ◌+◌, ◌*◌, ◌%◌, ◌<◌, length};
+ghost use Rattle.std.specs.Prelude.{◌≡◌, ℕ, ◌+◌, ◌%◌, ◌<◌};
 ghost use Rattle.aes.specs.State.{at};
-ghost use Rattle.masks.specs.Mask.{one, twice, covers_of};
+ghost use Rattle.masks.specs.Mask.{one, covers_of};
 ghost use Rattle.masks.specs.Order.{places_of, places_at};
+
+use crate::constants::twice;
 
 #[derive(Clone, Copy)]
 pub(crate) struct Position(usize);
@@ -17,21 +19,11 @@ pub struct Label(usize);
 pub struct Offsets([u8; 16]);
 
 impl Position {
-    pub(crate) const FIRST: Position = Position(0);
-
     // The one that an entry of a list names.
     pub(crate) fn listed(entry: u8) -> Position
         ensures { result.0 ≡ entry }
     {
         Position(entry as usize)
-    }
-
-    // The position that follows.
-    pub(crate) fn next(self) -> Position
-        requires { self.0 < 16 }
-        ensures { result.0 ≡ self.0 + 1 }
-    {
-        Position(self.0 + 1)
     }
 
     // Which byte of a state stands there.
@@ -64,16 +56,7 @@ impl Label {
         requires { p.0 < 16 }
         ensures { result ≡ at (places_at places.now self.0) p.0 }
     {
-        let i = 16 * (self.0 % 16) + p.0;
-        wide(places[i])
-    }
-
-    // Where the mask of the byte at a position lies, if byte 0 has this label, each byte the next one, and sixteen masks lie there
-    // twice over.
-    pub(crate) fn along(self, p: Position) -> usize
-        ensures { result ≡ self.0 % 16 + p.0 % 16 }
-    {
-        self.0 % 16 + p.0 % 16
+        places[16 * (self.0 % 16) + p.0] as usize
     }
 
     // Which of sixteen masks, boxes or constants has this label.
@@ -102,45 +85,24 @@ impl Offsets {
     pub fn places(self, r: &mut [u16; 256])
         ensures { r.new ≡ places_of self.0 }
     {
-        self.in_rows(r);
-    }
-
-    fn in_rows(self, r: &mut [u16])
-        requires { length r.old ≡ 256 }
-        ensures { r.new ≡ places_of self.0 }
-    {
-        let mut k = 0;
-        while k < 16 {
+        for k in 0..16 {
             let by = 256 * k as u16;
-            let mut i = 0;
-            while i < 16 {
+            for i in 0..16 {
                 r[16 * k + i] = (256 * (self.0[i] as u16 % 16) + by) % 4096;
-                i += 1;
             }
-            k += 1;
         }
     }
 
-    // The masks over the sixteen bytes, label after label, of masks that lie there twice over.
-    pub(crate) fn covers(self, masks: &[u8; 32], r: &mut [u8])
-        requires { length r.old ≡ 256 }
-        ensures { (M : List ℕ) → masks.now ≡ twice M → r.new ≡ covers_of M self.0 }
+    // The masks over the sixteen bytes, label after label, to the lent place: each byte has the masks from its offset on.
+    pub fn covers(self, masks: [u8; 16], r: &mut [u8; 256])
+        ensures { r.new ≡ covers_of masks self.0 }
     {
-        let mut i = 0;
-        while i < 16 {
+        let masks = twice(masks);
+        for i in 0..16 {
             let from = self.0[i] as usize % 16;
-            let mut k = 0;
-            while k < 16 {
+            for k in 0..16 {
                 r[16 * k + i] = masks[from + k];
-                k += 1;
             }
-            i += 1;
         }
     }
-}
-
-fn wide(place: u16) -> usize
-    ensures { result ≡ place }
-{
-    place as usize
 }

@@ -6,7 +6,6 @@ pub mod boxes;
 pub mod constants;
 pub mod label;
 mod order;
-mod parts;
 pub mod places;
 mod sheet;
 pub mod step;

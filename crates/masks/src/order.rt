@@ -1,6 +1,7 @@
 // The order in which the boxes of a round are called, document 002's: even positions first. So, with the published masks, what a box
 // gives and what the next one takes never lie under one mask.
-ghost use Rattle.std.specs.Prelude.{◌≡◌, ℕ, ◌+◌, ◌≤◌, ◌<◌};
+ghost use Rattle.std.specs.Prelude.{◌≡◌, ℕ, ◌+◌, ◌-◌, ◌≤◌, ◌<◌, MatchOption};
+ghost use Rattle.std.specs.Iterator.{at_most};
 ghost use Rattle.aes.specs.State.{at};
 ghost use Rattle.masks.specs.Order.{boxed_by, box_order, called, places_at};
 
@@ -15,45 +16,63 @@ pub(crate) fn positions() -> [u8; 16]
     ORDER
 }
 
-// How many boxes of a round have been called. Only a call counts on, so that no box comes before its turn.
-#[derive(Clone, Copy)]
-pub(crate) struct Turn(usize);
+// The turns of a round's boxes, by how many were taken. Only taking one counts on, so that no box comes before its turn.
+#[derive(Drop)]
+pub(crate) struct Turns<'a> {
+    order: &'a [u8; 16],
+    taken: usize,
+    ghost as_listed: { order.now ≡ box_order },
+}
+
+// A box's turn: the position that it is called at. It can be neither copied nor dropped, so each box is called once.
+pub(crate) struct Turn {
+    position: Position,
+    ghost in_state: { position.0 < 16 },
+}
+
+impl<'a> Turns<'a> {
+    pub(crate) fn all(order: &'a [u8; 16]) -> Turns<'a>
+        requires { order.now ≡ box_order }
+        ensures { result.taken ≡ 0 }
+    {
+        Turns { order, taken: 0 }
+    }
+}
+
+impl<'a> Iterator for Turns<'a> {
+    type Item = Turn;
+
+    ghost next_gives = { λ s r t. MatchOption r (16 ≤ s.taken) (λ turn. (s.taken < 16) × (turn.position.0 ≡ at box_order s.taken) × (t.taken ≡ s.taken + 1)) };
+
+    ghost remaining = { λ s. at_most (16 - s.taken) };
+
+    fn next(&mut self) -> Option<Turn> {
+        let k = self.taken;
+        if k >= 16 {
+            return None;
+        }
+        self.taken = k + 1;
+        let position = Position::listed(self.order[k]);
+        Some(Turn { position })
+    }
+}
 
 impl Turn {
-    pub(crate) const FIRST: Turn = Turn(0);
-
-    pub(crate) fn read(self) -> usize
-        ensures { result ≡ self.0 }
-    {
-        self.0
-    }
-
-    // Has the byte of s at the next position of the list answered by the box over it, and gives the turn that follows.
+    // Has the byte of s at this position answered by the box over it: at turn k that of entry k of the list.
     pub(crate) fn call(
         self,
         t: &mut [u8; 16],
-        order: &[u8; 16],
         s: &[u8; 16],
         boxes: &[u8; 4096],
         places: &[u16; 256],
         l: Label,
-    ) -> Turn
-        requires { (order.now ≡ box_order) × (self.0 < 16) × ((i : ℕ) → i < 16 → at (places_at places.now l.0) i ≤ 3840) }
-        ensures { (t.new ≡ called (boxed_by boxes.now (places_at places.now l.0) s.now) self.0 t.old) × (result.0 ≡ self.0 + 1) }
+    )
+        requires { (i : ℕ) → i < 16 → at (places_at places.now l.0) i ≤ 3840 }
+        ensures { (k : ℕ) → self.position.0 ≡ at box_order k → t.new ≡ called (boxed_by boxes.now (places_at places.now l.0) s.now) k t.old }
     {
-        let p = self.position(order);
-        let i = p.read();
-        t[i] = entry(boxes, l.over(places, p), s[i]);
-        Turn(self.0 + 1)
-    }
-
-    // The position whose turn it is.
-    fn position(self, order: &[u8; 16]) -> Position
-        requires { (order.now ≡ box_order) × (self.0 < 16) }
-        ensures { (result.0 ≡ at box_order self.0) × (result.0 < 16) }
-    {
-        let k = self.0;
-        Position::listed(order[k])
+        let Turn { position } = self;
+        let i = position.read();
+        t[i] = entry(boxes, l.over(places, position), s[i]);
     }
 }
 

@@ -5,5 +5,5 @@ ghost use Rattle.aes.specs.Reply.{taken};
 pub fn taken(step: u8) -> bool
     ensures { result ≡ taken step }
 {
-    ((step == 1) | (4 <= step)) & (step <= 15)
+    matches!(step, 1 | 4..=15)
 }

@@ -1,31 +1,44 @@
-// The rows of the table, of which the vectors of ECB have one for each length of a key, and the table before anything is counted.
-use lines::counts::{CELLS, print_table};
-use std::io::Print;
+// The rows of the table, of which the vectors of ECB have one for each length of a key.
+use lines::source::Source;
+use lines::vector::Length;
 
-pub const PUBLISHED_ECB: usize = 0;
+#[derive(Clone, Copy)]
+pub enum Row {
+    PublishedEcb128,
+    PublishedEcb192,
+    PublishedEcb256,
+    PublishedChains,
+    OtherEcb128,
+    OtherEcb192,
+    OtherEcb256,
+    OtherChains,
+    Steps,
+}
 
-pub const PUBLISHED_CHAINS: usize = 3;
+pub const TITLE: &str = "AES vectors, masked decryption";
 
-pub const OTHER_ECB: usize = 4;
+// The names of the rows, in their order.
+pub const ROWS: [&str; 9] = [
+    "published masks: NIST ECB, 128 bits",
+    "published masks: NIST ECB, 192 bits",
+    "published masks: NIST ECB, 256 bits",
+    "published masks: chains",
+    "other masks: NIST ECB, 128 bits",
+    "other masks: NIST ECB, 192 bits",
+    "other masks: NIST ECB, 256 bits",
+    "other masks: chains",
+    "replies to a step",
+];
 
-pub const OTHER_CHAINS: usize = 7;
-
-pub const STEPS: usize = 8;
-
-pub fn print(rt: &impl Print, counts: &[u64; CELLS]) {
-    let mut table = *b"\
-AES vectors, masked decryption                 run   differ
-  published masks: NIST ECB, 128 bits            0        0
-  published masks: NIST ECB, 192 bits            0        0
-  published masks: NIST ECB, 256 bits            0        0
-  published masks: chains                        0        0
-  other masks: NIST ECB, 128 bits                0        0
-  other masks: NIST ECB, 192 bits                0        0
-  other masks: NIST ECB, 256 bits                0        0
-  other masks: chains                            0        0
-  replies to a step                              0        0
-  all                                            0        0
-lines that could not be read                     0
-";
-    print_table(rt, &mut table, counts);
+impl Row {
+    // Those of a line, with the published masks and with others.
+    pub fn of(source: Source, length: Length) -> (Row, Row) {
+        match (source, length) {
+            (Source::Ecb, Length::Short) => (Row::PublishedEcb128, Row::OtherEcb128),
+            (Source::Ecb, Length::Middle) => (Row::PublishedEcb192, Row::OtherEcb192),
+            (Source::Ecb, Length::Long) => (Row::PublishedEcb256, Row::OtherEcb256),
+            (Source::Chain(_), _) => (Row::PublishedChains, Row::OtherChains),
+            _ => (Row::Steps, Row::Steps),
+        }
+    }
 }

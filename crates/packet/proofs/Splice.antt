@@ -1,6 +1,6 @@
 -- A packet with other bits and other whole blocks: as the code lays it, and as it is defined.
 -- Assumes nothing.
-use mathlib.Core.Path.{◌≡◌, refl, ap, ap₂, sym, ◌∙◌}
+use mathlib.Core.Path.{◌≡◌, refl, ap, sym, ◌∙◌}
 use mathlib.Core.Bool.{Bool, true, false, cond}
 use mathlib.Core.List.{List, [], ◌∷◌, ◌++◌, append_assoc}
 use Prim.Native.Nat.{ℕ, zero, suc, ◌+◌, ◌-◌, ◌*◌, ◌/◌, ◌%◌, ◌≤◌, ◌<◌}
@@ -51,16 +51,14 @@ pub inside : (k : ℕ) (odd : Bool) → k < 7 → 498 * k + cond odd 242 2 + 240
 inside k true lt = omega (arith, lt)
 inside k false lt = omega (arith, lt)
 
-pub changed_laid : (way : Bool) (bits : ℕ) (odd : Bool) (pipes : List ℕ) (k : ℕ) (p : List ℕ) {s a : ℕ} {c m body : List ℕ}
-    → 4 ≤ length p → s ≡ start p → a ≡ 498 * k + cond odd 242 2 → c ≡ starting_block pipes k → m ≡ with_bits bits p
-    → body ≡ cbc way (take (a + 240 - a) (drop a pipes)) c (take (s + 16 * ((188 - s) / 16) - s) (drop s p))
+pub changed_laid : (way : Bool) (bits : ℕ) (odd : Bool) (pipes : List ℕ) (k : ℕ) (p : List ℕ) {s : ℕ} {w c m body : List ℕ}
+    → 4 ≤ length p → s ≡ start p → w ≡ schedule_at pipes k odd → c ≡ starting_block pipes k → m ≡ with_bits bits p
+    → body ≡ cbc way w c (take (s + 16 * ((188 - s) / 16) - s) (drop s p))
     → back m s (s + 16 * ((188 - s) / 16) - s) body ≡ changed way bits odd pipes k p
 unfolding changed with_payload
-changed_laid way bits odd pipes k p {s} {a} {c} {m} {body} four es ea ec em eb =
-    let wide : a + 240 - a ≡ 240 = omega arith in
+changed_laid way bits odd pipes k p {s} {w} {c} {m} {body} four es ew ec em eb =
     let whole : s + 16 * ((188 - s) / 16) - s ≡ 16 * ((188 - s) / 16) = omega arith in
     let made : body ≡ cbc way (schedule_at pipes k odd) (starting_block pipes k) (payload p) =
-    eb ∙ ap₂ (λ (x y : ℕ). cbc way (take x (drop a pipes)) c (take y (drop s p))) wide whole
-    ∙ (λ i. cbc way (take 240 (drop (ea i) pipes)) (ec i) (take (16 * ((188 - es i) / 16)) (drop (es i) p))) in
+    eb ∙ ap (λ (y : ℕ). cbc way w c (take y (drop s p))) whole ∙ (λ i. cbc way (ew i) (ec i) (take (16 * ((188 - es i) / 16)) (drop (es i) p))) in
     ap (λ (x : ℕ). back m s x body) whole ∙ (λ i. back (em i) (es i) (16 * ((188 - es i) / 16)) (made i))
     ∙ laid bits (start p) (16 * blocks p) (cbc way (schedule_at pipes k odd) (starting_block pipes k) (payload p)) p (low p) four

@@ -1,3 +1,4 @@
 pub mod Packet
 pub mod Pid
+pub mod Way
 pub mod Calls

@@ -6,6 +6,7 @@ mod header;
 mod listed;
 mod pid;
 mod pipes;
+mod way;
 mod whole;
 
 pub use calls::{descramble, scramble};

@@ -1,70 +1,81 @@
 // Packets whose lengths and list are right: those of a listed PID are scrambled, descrambled or refused, and all others copied.
 ghost use Rattle.std.specs.Prelude.{◌≡◌, true, false, ◌<◌, length};
+ghost use Rattle.aes.specs.Refusal.{reply};
 ghost use Rattle.packet.specs.Packet.{field_right, parity, pipe_of};
+ghost use Rattle.packet.specs.Way.{is_back, odd_of};
 ghost use Rattle.packet.specs.Calls.{answered_of};
 
-use crate::header::{bits_of, field_right, is_long, pid_of};
-use crate::pipes::pipe_of;
-use crate::whole::changed;
-use aes::reply;
+use crate::header::Packet;
+use crate::pipes::Pipes;
+use crate::way::Way;
+use aes::reply::Refusal;
 use cbc::copy;
 
-pub(crate) fn answered(back: bool, packet: &[u8], out: &mut [u8], pipes: &[u8], odd: bool) -> u8
-    requires { (length packet.now ≡ 188) × (length out.old ≡ 188) × (length pipes.now ≡ 3486) }
-    ensures { (result, out.new) ≡ answered_of back packet.now out.old pipes.now odd }
+// A packet of pipe k, whose adaptation field is right.
+#[derive(Drop)]
+pub(crate) struct Listed<'a> {
+    pub(crate) packet: Packet<'a>,
+    pub(crate) pipes: Pipes<'a>,
+    pub(crate) k: usize,
+    ghost own: { k ≡ pipe_of pipes.bytes.now packet.bytes.now },
+    ghost listed: { k < 7 },
+    ghost right: { field_right packet.bytes.now ≡ true },
+}
+
+// How long the lent packet is stays a requires: a value that lends it on would stand with its entry and its exit in each promise.
+pub(crate) fn answered(
+    way: Way,
+    packet: Packet,
+    pipes: Pipes,
+    out: &mut [u8],
+) -> Result<(), Refusal>
+    requires { length out.old ≡ 188 }
+    ensures { (reply result, out.new) ≡ answered_of (is_back way) packet.entry.bytes.now out.old pipes.entry.bytes.now (odd_of way) }
 {
-    let k = pipe_of(pipes, pid_of(packet));
-    if 6 < k {
-        copy(packet, out);
-        return reply::DONE;
+    let Some(k) = pipes.pipe_of(packet.pid()) else {
+        copy(packet.bytes, out);
+        return Ok(());
+    };
+    if !packet.field_right() {
+        return Err(Refusal::FieldWrong);
     }
-    if !field_right(packet) {
-        return reply::FIELD_WRONG;
-    }
-    if back {
-        descrambled(packet, out, pipes, k)
-    } else {
-        scrambled(packet, out, pipes, k, odd)
+    let listed = &Listed { packet, pipes, k };
+    match way {
+        Way::Scramble(odd) => listed.scrambled(odd, out),
+        Way::Descramble => listed.descrambled(out),
     }
 }
 
-// Packets of pipe k, whose adaptation field is right.
-fn scrambled(packet: &[u8], out: &mut [u8], pipes: &[u8], k: usize, odd: bool) -> u8
-    requires { (length packet.now ≡ 188) × (length out.old ≡ 188) × (length pipes.now ≡ 3486) × (k < 7) × (k ≡ pipe_of pipes.now packet.now) × (field_right packet.now ≡ true) }
-    ensures { (result, out.new) ≡ answered_of false packet.now out.old pipes.now odd }
-{
-    if bits_of(packet) != 0 {
-        return reply::BITS_WRONG;
+impl Listed<'_> {
+    fn scrambled(&self, odd: bool, out: &mut [u8]) -> Result<(), Refusal>
+        requires { length out.old ≡ 188 }
+        ensures { (reply result, out.new) ≡ answered_of false self.now.packet.bytes.now out.old self.now.pipes.bytes.now odd }
+    {
+        if self.packet.bits() != 0 {
+            return Err(Refusal::BitsWrong);
+        }
+        if !self.packet.is_long() {
+            copy(self.packet.bytes, out);
+            return Ok(());
+        }
+        self.changed(false, odd, out);
+        Ok(())
     }
-    if !is_long(packet) {
-        copy(packet, out);
-        return reply::DONE;
-    }
-    let bits = parity(odd);
-    changed(false, bits, odd, packet, out, pipes, k);
-    reply::DONE
-}
 
-fn descrambled(packet: &[u8], out: &mut [u8], pipes: &[u8], k: usize) -> u8
-    requires { (length packet.now ≡ 188) × (length out.old ≡ 188) × (length pipes.now ≡ 3486) × (k < 7) × (k ≡ pipe_of pipes.now packet.now) × (field_right packet.now ≡ true) }
-    ensures { (result, out.new) ≡ answered_of true packet.now out.old pipes.now false }
-{
-    let bits = bits_of(packet);
-    if bits == 0 {
-        copy(packet, out);
-        return reply::DONE;
+    fn descrambled(&self, out: &mut [u8]) -> Result<(), Refusal>
+        requires { length out.old ≡ 188 }
+        ensures { (reply result, out.new) ≡ answered_of true self.now.packet.bytes.now out.old self.now.pipes.bytes.now false }
+    {
+        let bits = self.packet.bits();
+        if bits == 0 {
+            copy(self.packet.bytes, out);
+            return Ok(());
+        }
+        let opens = (2 <= bits) & self.packet.is_long();
+        if !opens {
+            return Err(Refusal::BitsWrong);
+        }
+        self.changed(true, bits == 3, out);
+        Ok(())
     }
-    let opens = (2 <= bits) & is_long(packet);
-    if !opens {
-        return reply::BITS_WRONG;
-    }
-    changed(true, 0, bits == 3, packet, out, pipes, k);
-    reply::DONE
-}
-
-// The bits that say even or odd.
-fn parity(odd: bool) -> u8
-    ensures { result ≡ parity odd }
-{
-    if odd { 3 } else { 2 }
 }

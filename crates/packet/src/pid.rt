@@ -24,16 +24,5 @@ pub(crate) fn sort_pid(pid: u16) -> Kind
 pub(crate) fn assignable(pid: u16) -> bool
     ensures { result ≡ eqb (sort_pid_of pid) 1 }
 {
-    kind_number(sort_pid(pid)) == 1
-}
-
-fn kind_number(kind: Kind) -> u8
-    ensures { result ≡ kind_number kind }
-{
-    match kind {
-        Kind::Reserved => 0,
-        Kind::Assignable => 1,
-        Kind::Null => 2,
-        Kind::Beyond => 3,
-    }
+    matches!(sort_pid(pid), Kind::Assignable)
 }

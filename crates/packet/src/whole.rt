@@ -1,45 +1,36 @@
 // A packet of a listed pipe, whose whole blocks go through CBC.
-ghost use Rattle.std.specs.Prelude.{◌≡◌, cond, ◌+◌, ◌*◌, ◌≤◌, ◌<◌, length};
-ghost use Rattle.packet.specs.Packet.{start, with_bits, changed};
+ghost use Rattle.std.specs.Prelude.{◌≡◌, cond, ◌≤◌, length};
+ghost use Rattle.packet.specs.Packet.{start, parity, changed};
 
-use crate::header::start_of;
-use cbc::{cbc, copy, sixteen_at};
+use crate::listed::Listed;
+use cbc::cbc;
 
-pub(crate) fn changed(
-    back: bool,
-    bits: u8,
-    odd: bool,
-    packet: &[u8],
-    out: &mut [u8],
-    pipes: &[u8],
-    k: usize,
-)
-    requires { (length packet.now ≡ 188) × (length out.old ≡ 188) × (length pipes.now ≡ 3486) × (k < 7) × (start packet.now ≤ 172) × (bits ≤ 3) }
-    ensures { out.new ≡ changed back bits odd pipes.now k packet.now }
-{
-    let s = start_of(packet);
-    let n = (188 - s) / 16;
-    let e = s + 16 * n;
-    let a = schedule_at(k, odd);
-    let b = a + 240;
-    let start = sixteen_at(pipes, 498 * k + 482);
-    marked(packet, out, bits);
-    cbc(back, &pipes[a..b], start, &packet[s..e], &mut out[s..e], n);
+impl Listed<'_> {
+    pub(crate) fn changed(&self, back: bool, odd: bool, out: &mut [u8])
+        requires { (length out.old ≡ 188) × (start self.now.packet.bytes.now ≤ 172) }
+        ensures { out.new ≡ changed back (cond back 0 (parity odd)) odd self.now.pipes.bytes.now self.now.k self.now.packet.bytes.now }
+    {
+        let s = self.packet.start();
+        let n = (188 - s) / 16;
+        let e = s + 16 * n;
+        let schedule = self.pipes.schedule(self.k, odd);
+        let start = self.pipes.starting_block(self.k);
+        let bits = if back { 0 } else { parity(odd) };
+        self.packet.marked(bits, out);
+        cbc(
+            back,
+            schedule,
+            start,
+            &self.packet.bytes[s..e],
+            &mut out[s..e],
+            n,
+        );
+    }
 }
 
-// The packet, with other scrambling bits.
-fn marked(packet: &[u8], out: &mut [u8], bits: u8)
-    requires { (length packet.now ≡ 188) × (length out.old ≡ 188) × (bits ≤ 3) }
-    ensures { out.new ≡ with_bits bits packet.now }
+// The bits that say even or odd.
+fn parity(odd: bool) -> u8
+    ensures { result ≡ parity odd }
 {
-    copy(packet, out);
-    out[3] = bits * 64 + packet[3] % 64;
-}
-
-// Where the schedule of a pipe begins, even or odd.
-fn schedule_at(k: usize, odd: bool) -> usize
-    requires { k < 7 }
-    ensures { result ≡ 498 * k + cond odd 242 2 }
-{
-    if odd { 498 * k + 242 } else { 498 * k + 2 }
+    if odd { 3 } else { 2 }
 }

@@ -1,76 +1,51 @@
 // The calls, both ways.
-ghost use Rattle.std.specs.Prelude.{◌≤◌};
-
-use crate::buffers::{Place, UNTOUCHED, packet, put_pipe};
+use crate::buffers::{PIDS, Place, UNTOUCHED};
 use crate::message::Message;
-use aes::reply::DONE;
-use check::same;
-use lines::counts::{CELLS, count};
+use crate::table::Row;
+use lines::counts::Counts;
+use lines::source::Source;
 use lines::vector::Way;
 
-// Both ways, under the even and the odd schedule, in seven pipes, with 0 to 15 bytes behind the blocks.
-const CALLS: usize = 2 * 2 * 7 * 16;
+const WAYS: [Way; 2] = [Way::Encrypt, Way::Decrypt];
 
-// Makes the calls, except where a packet has no room, counts what came of them in four rows, and answers whether the message could
-// be read. Where its key is refused, a schedule of zeros leads to differences.
-pub fn tried(message: Message, first_row: usize, counts: &mut [u64; CELLS]) -> bool
-    requires { (message.blocks ≤ 11) × (first_row ≤ 4) }
-{
-    if !message.read {
-        return false;
-    }
-    let row = message.row;
-    let first = row.first;
-    let key = first.key;
-    let mut schedule = [0u8; 240];
-    aes::expand_key(&key, &mut schedule);
-    let mut n = 0;
-    while n < CALLS {
-        let rest = n / 28;
+// Makes the calls, both ways, under the even and the odd schedule, in seven pipes, with 0 to 15 bytes behind the blocks, except where
+// a packet has no room, and counts what came of them. Where the key is refused, a schedule of zeros leads to differences.
+pub fn run(source: Source, message: &Message, counts: &mut Counts) {
+    let mut schedule = [0; 240];
+    let _ = aes::expand_key(&message.row.key.room, &mut schedule);
+    for rest in 0..16 {
         let size = 16 * message.blocks + rest;
         if size <= 184 {
-            let place = Place {
-                pipe: n / 4 % 7,
-                odd: n % 2 == 1,
-                start: 188 - size,
-                end: 188 - rest,
-            };
-            let way = if n / 2 % 2 == 0 {
-                Way::Encrypt
-            } else {
-                Way::Decrypt
-            };
-            count(
-                counts,
-                first_row + n % 4,
-                right(way, message, &schedule, place),
-            );
+            for pipe in 0..PIDS.len() {
+                for odd in [false, true] {
+                    let place = Place {
+                        pipe,
+                        odd,
+                        start: 188 - size,
+                        end: 188 - rest,
+                    };
+                    for way in WAYS {
+                        let right = right(way, message, &schedule, &place);
+                        counts.count(Row::of(source, way, odd) as usize, right);
+                    }
+                }
+            }
         }
-        n += 1;
     }
-    true
 }
 
 // Whether a call makes of the packet in clear the scrambled one, or of that the packet in clear.
-fn right(way: Way, message: Message, schedule: &[u8; 240], place: Place) -> bool
-    requires { (place.pipe ≤ 6) × (place.start ≤ place.end) × (place.end ≤ 188) }
-{
-    let row = message.row;
-    let plain = row.plain;
-    let cipher = row.cipher;
-    let start = message.start;
+fn right(way: Way, message: &Message, schedule: &[u8; 240], place: &Place) -> bool {
     let odd = place.odd;
-    let clear = packet(place, 0, &plain);
-    let sent = packet(place, if odd { 0xc0 } else { 0x80 }, &cipher);
-    let mut list = [UNTOUCHED; 3486];
-    put_pipe(&mut list, place, schedule, &start);
+    let clear = place.packet(0, message.row.plain.as_flattened());
+    let bits = if odd { 0xc0 } else { 0x80 };
+    let sent = place.packet(bits, message.row.cipher.as_flattened());
+    let list = place.list(schedule, &message.start);
+    let list = list.as_flattened();
     let mut output = [UNTOUCHED; 188];
-    match way {
-        Way::Encrypt => {
-            (packet::scramble(&clear, &mut output, &list, odd) == DONE) & same(&output, &sent)
-        }
-        Way::Decrypt => {
-            (packet::descramble(&sent, &mut output, &list) == DONE) & same(&output, &clear)
-        }
-    }
+    let (outcome, expected) = match way {
+        Way::Encrypt => (packet::scramble(&clear, &mut output, list, odd), sent),
+        Way::Decrypt => (packet::descramble(&sent, &mut output, list), clear),
+    };
+    outcome.is_ok() & (output == expected)
 }

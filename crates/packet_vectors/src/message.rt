@@ -2,110 +2,79 @@
 ghost use Rattle.std.specs.Prelude.{◌≤◌};
 
 use aes::add;
-use lines::row::{Row, shares_key, with};
-use lines::text::{part, read_hex};
-use lines::vector::{Vector, of_fields};
-use lines::{row, vector};
+use lines::row::{Row, read_of_key};
+use lines::text::{Lines, field, hex};
+use lines::vector::{Key, Vector};
+use std::iter::once;
 
 // As many blocks as a packet has room for: they are 176 bytes, of 184.
 const MOST: usize = 11;
 
-// Whether it could be read, its starting block, how many blocks it has, and its key and blocks.
+// A starting block, how many blocks follow, and their key and they.
 #[derive(Clone, Copy)]
 pub struct Message {
-    pub read: bool,
     pub start: [u8; 16],
     pub blocks: usize,
     pub row: Row,
+    ghost fits: { blocks ≤ 11 },
 }
 
-// The blocks of the first line of a text and of those below it that have its key, chained from a block of zeros. A line has what the
-// cipher is given: that is a block in clear, added to the cipher block before it.
-pub fn chained(text: &[u8]) -> Message
-    ensures { result.blocks ≤ 11 }
-{
-    let first = vector::read(part(text, 0, b'\n'));
-    let blocks = blocks_of(text, first);
-    let start = [0u8; 16];
-    let mut row = row::none(first);
-    let mut last = start;
-    let mut k = 0;
-    while k < blocks {
-        let mut next = vector::read(part(text, k, b'\n'));
-        let given = next.plain;
-        let plain = add(given, last);
-        next.plain = plain;
-        row = with(row, k, next);
-        last = next.cipher;
-        k += 1;
-    }
-    Message {
-        read: first.read,
-        start,
-        blocks,
-        row,
-    }
-}
-
-// How many lines of a text, from the first on, have its key; no more than a packet has room for.
-fn blocks_of(text: &[u8], first: Vector) -> usize
-    ensures { result ≤ 11 }
-{
-    let mut k = 0;
-    while k < MOST {
-        if !shares_key(first, vector::read(part(text, k, b'\n'))) {
-            return k;
+impl Message {
+    // Without any block yet.
+    fn none(key: Key, start: [u8; 16]) -> Message {
+        Message {
+            start,
+            blocks: 0,
+            row: Row::none(key),
         }
-        k += 1;
     }
-    k
-}
 
-// A line is a key, a starting block, and all blocks in clear and as CBC makes them.
-pub fn of_line(line: &[u8]) -> Message
-    ensures { result.blocks ≤ 11 }
-{
-    let key = part(line, 0, b' ');
-    let plain = part(line, 2, b' ');
-    let cipher = part(line, 3, b' ');
-    let mut start = [0u8; 16];
-    let started = read_hex(part(line, 1, b' '), &mut start);
-    let blocks = blocks_in(plain);
-    let first = of_fields(key, digits(plain, 0), digits(cipher, 0));
-    let mut read = first.read & started & (line.len() == 99 + 64 * blocks);
-    let mut row = row::none(first);
-    let mut k = 0;
-    while k < blocks {
-        let next = of_fields(key, digits(plain, k), digits(cipher, k));
-        read = read & next.read;
-        row = with(row, k, next);
-        k += 1;
+    // Puts one block more, where a packet has room for it.
+    fn put(&mut self, v: Vector) {
+        let k = self.blocks;
+        if k < MOST {
+            self.row.put(k, v);
+            self.blocks = k + 1;
+        }
     }
-    Message {
-        read,
-        start,
-        blocks,
-        row,
-    }
-}
 
-// How many blocks a field has; none, where they are more than a packet has room for.
-fn blocks_in(field: &[u8]) -> usize
-    ensures { result ≤ 11 }
-{
-    let blocks = field.len() / 32;
-    if MOST < blocks {
-        return 0;
+    // The blocks of a line and of those below it that have its key, chained from a block of zeros. A line has what the cipher is given:
+    // that is a block in clear, added to the cipher block before it.
+    pub fn chained(line: &[u8], below: &[u8]) -> Option<Message> {
+        let key = Vector::read(line)?.key;
+        let start = [0; 16];
+        let mut message = Message::none(key, start);
+        let mut last = start;
+        let lines = once(line).chain(Lines { text: below });
+        for given in lines.map_while(|line| read_of_key(line, key)).take(MOST) {
+            let plain = add(given.plain, last);
+            let cipher = given.cipher;
+            message.put(Vector { key, plain, cipher });
+            last = cipher;
+        }
+        Some(message)
     }
-    blocks
-}
 
-// The digits of block k of a field; none where it has fewer.
-fn digits(field: &[u8], k: usize) -> &[u8] {
-    if field.len() / 32 <= k {
-        return &field[0..0];
+    // A line is a key, a starting block, and all blocks in clear and as CBC makes them.
+    pub fn read(line: &[u8]) -> Option<Message> {
+        let key = Key::read(field(line, 0))?;
+        let mut message = Message::none(key, hex(field(line, 1))?);
+        let (plain, _) = field(line, 2).as_chunks::<32>();
+        let (cipher, _) = field(line, 3).as_chunks::<32>();
+        let blocks = plain.len();
+        if (blocks == 0) | (MOST < blocks) | (cipher.len() < blocks) {
+            return None;
+        }
+        if line.len() != 99 + 64 * blocks {
+            return None;
+        }
+        for (plain, cipher) in plain.iter().zip(cipher) {
+            message.put(Vector {
+                key,
+                plain: hex(plain)?,
+                cipher: hex(cipher)?,
+            });
+        }
+        Some(message)
     }
-    let a = 32 * k;
-    let e = a + 32;
-    &field[a..e]
 }

@@ -1,24 +1,44 @@
-// The rows of the table, and the table before anything is counted. Each source has four: both ways, even and odd.
-use lines::counts::{CELLS, print_table};
-use std::io::Print;
+// The rows of the table. Each source has four: both ways, even and odd.
+use lines::source::Source;
+use lines::vector::Way;
 
-pub const ECB: usize = 0;
+#[derive(Clone, Copy)]
+pub enum Row {
+    ChainedEven,
+    ChainedOdd,
+    ChainedBackEven,
+    ChainedBackOdd,
+    CbcEven,
+    CbcOdd,
+    CbcBackEven,
+    CbcBackOdd,
+}
 
-pub const CBC: usize = 4;
+pub const TITLE: &str = "AES-256 vectors, packets";
 
-pub fn print(rt: &impl Print, counts: &[u64; CELLS]) {
-    let mut table = *b"\
-AES-256 vectors, packets                       run   differ
-  NIST ECB, chained, scrambled, even             0        0
-  NIST ECB, chained, scrambled, odd              0        0
-  NIST ECB, chained, descrambled, even           0        0
-  NIST ECB, chained, descrambled, odd            0        0
-  SP 800-38A F.2.5, scrambled, even              0        0
-  SP 800-38A F.2.5, scrambled, odd               0        0
-  SP 800-38A F.2.6, descrambled, even            0        0
-  SP 800-38A F.2.6, descrambled, odd             0        0
-  all                                            0        0
-lines that could not be read                     0
-";
-    print_table(rt, &mut table, counts);
+// The names of the rows, in their order.
+pub const ROWS: [&str; 8] = [
+    "NIST ECB, chained, scrambled, even",
+    "NIST ECB, chained, scrambled, odd",
+    "NIST ECB, chained, descrambled, even",
+    "NIST ECB, chained, descrambled, odd",
+    "SP 800-38A F.2.5, scrambled, even",
+    "SP 800-38A F.2.5, scrambled, odd",
+    "SP 800-38A F.2.6, descrambled, even",
+    "SP 800-38A F.2.6, descrambled, odd",
+];
+
+impl Row {
+    pub fn of(source: Source, way: Way, odd: bool) -> Row {
+        match (source, way, odd) {
+            (Source::Ecb, Way::Encrypt, false) => Row::ChainedEven,
+            (Source::Ecb, Way::Encrypt, true) => Row::ChainedOdd,
+            (Source::Ecb, Way::Decrypt, false) => Row::ChainedBackEven,
+            (Source::Ecb, Way::Decrypt, true) => Row::ChainedBackOdd,
+            (_, Way::Encrypt, false) => Row::CbcEven,
+            (_, Way::Encrypt, true) => Row::CbcOdd,
+            (_, Way::Decrypt, false) => Row::CbcBackEven,
+            (_, Way::Decrypt, true) => Row::CbcBackOdd,
+        }
+    }
 }

@@ -1,9 +1,9 @@
 -- The step that belongs to point m after the covered block of a decryption: what it makes of a state, and what it leaves of label and
 -- round.
 -- Assumes nothing.
-use mathlib.Core.Path.{◌≡◌, sym, ap, ◌∙◌}
+use mathlib.Core.Path.{◌≡◌, refl, ap, ◌∙◌}
 use mathlib.Core.List.{List}
-use Prim.Native.Nat.{ℕ, suc, ◌+◌, ◌-◌, ◌*◌, ◌/◌, ◌%◌}
+use Prim.Native.Nat.{ℕ, suc, ◌+◌, ◌-◌, ◌*◌, ◌/◌, ◌%◌, ◌<◌}
 use native.Mathlib.Omega.{arith}
 use borrow.Author.Tests.{ne_eqb}
 use lib.ListN.{get_or}
@@ -11,9 +11,14 @@ use Rattle.aes.specs.State.{inv_shift_rows, inv_mix_columns}
 use Rattle.aes.specs.Key.{round_key}
 use Rattle.masks.specs.Mask.{◌⊞◌}
 use Rattle.masks.specs.Order.{boxed_by, boxes_at}
+use Rattle.lent.specs.declared.tables.Schedule.{Schedule}
+use Rattle.lent.specs.declared.tables.Decryption.{Decryption}
+use Rattle.lent.specs.Started.{offsets_of}
+use Rattle.runs.specs.declared.steps.Covered.{Covered}
 use Rattle.runs.specs.Back.{block, restored}
 use Rattle.runs.specs.Lent.{back_steps, around, back_point_after}
-use Rattle.runs.proofs.Labels.{label_on}
+use Rattle.runs.specs.Steps.{Behind, back}
+use Rattle.runs.proofs.Labels.{label_on, boxes_whole}
 
 pub at_point : (m k : ℕ) → m % 6 ≡ k → back_point_after m ≡ get_or (around (m / 6)) k block
 unfolding back_point_after
@@ -26,63 +31,60 @@ at_restored m e other = at_point m 0 e ∙ later (m / 6) (λ z. other (omega (ar
     later : (r : ℕ) → (r ≡ 0 → ⊥) → get_or (around r) 0 block ≡ restored (r - 1)
     later r h = simp (ne_eqb r 0 h)
 
-module _ (n : ℕ) (w b rows columns p : List ℕ) (d m l k : ℕ) (s : List ℕ) (round : k + (m + 2) / 6 ≡ n) where
-  -- t is what the point's step makes of s, for any offset that its label has come from and any last constant
-  abbrev Made : List ℕ → Type 0
-  Made t = (o : ℕ) (end : List ℕ) → l ≡ (o + d * (n - k)) % 16 → t ≡ back_steps n w b rows columns p o d end (back_point_after m) s
-
-  -- and it stands at its label, in its round and in the part that was lent for it
-  abbrev Done : List ℕ → ℕ → ℕ → List ℕ → Type 0
-  Done t l' k' part =
-      ((o : ℕ) (end : List ℕ) → l ≡ (o + d * (n - k)) % 16 → (t ≡ back_steps n w b rows columns p o d end (back_point_after m) s) × (l' ≡ (o + d * (n - k')) % 16))
-      × (k' + (m + 3) / 6 ≡ n) × (part ≡ t)
+module _ (w : Schedule) (t : Decryption) (s : Covered) (m : ℕ) (round : s.round.0 + (m + 2) / 6 ≡ w.rounds) where
+  -- u is what the point's step makes of s, for any label that the run has begun with and any last constant
+  abbrev Done : Covered → Type 0
+  Done u =
+      ((o : ℕ) (end : List ℕ) → Behind o w t s → (u.bytes ≡ back w t o end (back_point_after m) s.bytes) × Behind o w t u) × (u.round.0 + (m + 3) / 6 ≡ w.rounds)
 
   -- a state that is not answered at this point keeps label and round
-  kept : {t : List ℕ} {l' k' : ℕ} {part : List ℕ} → (m % 6 ≡ 3 → ⊥) → Made t → l' ≡ l → k' ≡ k → part ≡ t → Done t l' k' part
-  kept {t} {l'} {k'} other made hl hk hp =
-      (λ o end h. (made o end h, hl ∙ h ∙ ap (λ (j : ℕ). (o + d * (n - j)) % 16) (sym hk)), omega (arith, round, other, hk), hp)
+  kept : {x : List ℕ} → (m % 6 ≡ 3 → ⊥) → ((o : ℕ) (end : List ℕ) → Behind o w t s → x ≡ back w t o end (back_point_after m) s.bytes) → Done (record s { bytes = x })
+  kept other made = (λ o end h. (made o end h, h), omega (arith, round, other))
 
-  pub first_done : {t : List ℕ} {l' k' : ℕ} {part : List ℕ} → m ≡ 0 → t ≡ s ⊞ round_key w k → l' ≡ l → k' ≡ k → part ≡ t → Done t l' k' part
+  -- its label, by the rounds that are done
+  label-of : (o r : ℕ) → w.rounds - s.round.0 ≡ r → Behind o w t s → s.label.0 % 16 ≡ (o + t.laid.masks.step * r) % 16
+  label-of o r e h = h ∙ ap (λ (j : ℕ). (o + t.laid.masks.step * j) % 16) e
+
+  -- and its key
+  key-of : {k : ℕ} → s.round.0 ≡ k → s.bytes ⊞ round_key w.bytes.now s.round.0 ≡ s.bytes ⊞ round_key w.bytes.now k
+  key-of e = ap (λ (k : ℕ). s.bytes ⊞ round_key w.bytes.now k) e
+
+  pub first_done : m ≡ 0 → Done (record s { bytes = s.bytes ⊞ round_key w.bytes.now s.round.0 })
   unfolding back_steps back_point_after
-  first_done e ht =
-      let k-is : k ≡ n - 0 = omega (arith, e, round) in
-      kept (λ other. omega arith) (λ o end h. rw e (ht ∙ ap (λ (j : ℕ). s ⊞ round_key w j) k-is))
+  first_done e = kept (λ other. omega arith) (λ o end h. rw e (key-of (omega (arith, e, round))))
 
-  pub unshifted_done : {t : List ℕ} {l' k' : ℕ} {part : List ℕ} → m % 6 ≡ 1 → t ≡ inv_shift_rows s → l' ≡ l → k' ≡ k → part ≡ t → Done t l' k' part
+  pub unshifted_done : m % 6 ≡ 1 → Done (record s { bytes = inv_shift_rows s.bytes })
   unfolding back_steps
-  unshifted_done e ht = kept (λ other. omega arith) (λ o end h. rw (at_point m 1 e) ht)
+  unshifted_done e = kept (λ other. omega arith) (λ o end h. rw (at_point m 1 e) refl)
 
-  pub corrected_done : {t : List ℕ} {l' k' : ℕ} {part : List ℕ} → m % 6 ≡ 2 → t ≡ s ⊞ round_key rows l → l' ≡ l → k' ≡ k → part ≡ t → Done t l' k' part
+  pub corrected_done : m % 6 ≡ 2 → Done (record s { bytes = s.bytes ⊞ round_key t.rows.now (s.label.0 % 16) })
   unfolding back_steps
-  corrected_done e ht =
-      let r-is : n - k ≡ m / 6 = omega (arith, e, round) in
-      kept (λ other. omega arith) (λ o end h. rw (at_point m 2 e) (ht ∙ ap (λ (j : ℕ). s ⊞ round_key rows j) (h ∙ ap (λ (j : ℕ). (o + d * j) % 16) r-is)))
+  corrected_done e =
+      kept (λ other. omega arith)
+      (λ o end h. rw (at_point m 2 e) (ap (λ (k : ℕ). s.bytes ⊞ round_key t.rows.now k) (label-of o (m / 6) (omega (arith, e, round)) h)))
 
-  pub unboxed_done : {t : List ℕ} {l' : ℕ} (k' : ℕ) {part : List ℕ} → m % 6 ≡ 3 → t ≡ boxed_by b (boxes_at p l) s → l' ≡ (l + d) % 16 → k' + 1 ≡ k → part ≡ t → Done t l' k' part
+  pub unboxed_done : m % 6 ≡ 3 → 0 < s.round.0
+      → Done (record { label = record { 0 = (s.label.0 + t.laid.masks.step) % 16 }; round = record { 0 = s.round.0 - 1 }; bytes = boxed_by t.boxes.now (boxes_at (offsets_of t.laid.masks) s.label.0) s.bytes })
   unfolding back_steps
-  unboxed_done {t} {l'} k' e ht hl hk hp =
-      let r-is : n - k ≡ m / 6 = omega (arith, e, round) in
-      let next : n - k' ≡ n - k + 1 = omega (arith, e, round, hk) in (
+  unboxed_done e some =
+      let next : w.rounds - (s.round.0 - 1) ≡ w.rounds - s.round.0 + 1 = omega (arith, e, round, some) in (
         λ o end h. (
-          rw (at_point m 3 e) (ht ∙ ap (λ (j : ℕ). boxed_by b (boxes_at p j) s) (h ∙ ap (λ (j : ℕ). (o + d * j) % 16) r-is)),
-          label_on o d l (n - k) l' (n - k') hl next h,
+          rw (at_point m 3 e) (ap (λ (p : List ℕ). boxed_by t.boxes.now p s.bytes) (boxes_whole (offsets_of t.laid.masks) s.label.0 _ (label-of o (m / 6) (omega (arith, e, round)) h))),
+          rw next (label_on o t.laid.masks.step s.label.0 (w.rounds - s.round.0) h),
         ),
-        omega (arith, e, round, hk),
-        hp,
+        omega (arith, e, round, some),
       )
 
-  pub keyed_done : {t : List ℕ} {l' k' : ℕ} {part : List ℕ} → m % 6 ≡ 4 → t ≡ s ⊞ round_key w k → l' ≡ l → k' ≡ k → part ≡ t → Done t l' k' part
+  pub keyed_done : m % 6 ≡ 4 → Done (record s { bytes = s.bytes ⊞ round_key w.bytes.now s.round.0 })
   unfolding back_steps
-  keyed_done e ht =
-      let k-is : k ≡ n - suc (m / 6) = omega (arith, e, round) in
-      kept (λ other. omega arith) (λ o end h. rw (at_point m 4 e) (ht ∙ ap (λ (j : ℕ). s ⊞ round_key w j) k-is))
+  keyed_done e = kept (λ other. omega arith) (λ o end h. rw (at_point m 4 e) (key-of (omega (arith, e, round))))
 
-  pub unmixed_done : {t : List ℕ} {l' k' : ℕ} {part : List ℕ} → m % 6 ≡ 5 → t ≡ inv_mix_columns s → l' ≡ l → k' ≡ k → part ≡ t → Done t l' k' part
+  pub unmixed_done : m % 6 ≡ 5 → Done (record s { bytes = inv_mix_columns s.bytes })
   unfolding back_steps
-  unmixed_done e ht = kept (λ other. omega arith) (λ o end h. rw (at_point m 5 e) ht)
+  unmixed_done e = kept (λ other. omega arith) (λ o end h. rw (at_point m 5 e) refl)
 
-  pub restored_done : {t : List ℕ} {l' k' : ℕ} {part : List ℕ} → m % 6 ≡ 0 → (m ≡ 0 → ⊥) → t ≡ s ⊞ round_key columns l → l' ≡ l → k' ≡ k → part ≡ t → Done t l' k' part
+  pub restored_done : m % 6 ≡ 0 → (m ≡ 0 → ⊥) → Done (record s { bytes = s.bytes ⊞ round_key t.columns.now (s.label.0 % 16) })
   unfolding back_steps
-  restored_done e other ht =
-      let r-is : n - k ≡ suc (m / 6 - 1) = omega (arith, e, other, round) in
-      kept (λ three. omega arith) (λ o end h. rw (at_restored m e other) (ht ∙ ap (λ (j : ℕ). s ⊞ round_key columns j) (h ∙ ap (λ (j : ℕ). (o + d * j) % 16) r-is)))
+  restored_done e other =
+      kept (λ three. omega arith)
+      (λ o end h. rw (at_restored m e other) (ap (λ (k : ℕ). s.bytes ⊞ round_key t.columns.now k) (label-of o (suc (m / 6 - 1)) (omega (arith, e, other, round)) h)))

@@ -5,5 +5,8 @@ pub mod BackSteps
 pub mod BackPointSteps
 pub mod BackRecord
 pub mod Points
-pub mod Owned
+pub mod Rounds
+pub mod BackRounds
+pub mod Recorded
+pub mod BackRecorded
 pub mod Unique

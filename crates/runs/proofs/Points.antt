@@ -1,6 +1,6 @@
 -- The step that belongs to point m after the covered block: what it makes of a state, and what it leaves of label and round.
 -- Assumes nothing.
-use mathlib.Core.Path.{◌≡◌, ap, ◌∙◌}
+use mathlib.Core.Path.{◌≡◌, refl, ap, ◌∙◌}
 use mathlib.Core.Bool.{Bool, cond}
 use mathlib.Core.List.{List}
 use Prim.Native.Nat.{ℕ, suc, ◌+◌, ◌*◌, ◌/◌, ◌%◌, ◌<◌}
@@ -11,8 +11,13 @@ use Rattle.aes.specs.Key.{round_key}
 use Rattle.aes.specs.Record.{mixed, compensated, closed, uncovered}
 use Rattle.masks.specs.Mask.{◌⊞◌}
 use Rattle.masks.specs.Order.{boxed_by, boxes_at}
+use Rattle.lent.specs.declared.tables.Schedule.{Schedule}
+use Rattle.lent.specs.declared.tables.Encryption.{Encryption}
+use Rattle.lent.specs.Started.{offsets_of}
+use Rattle.runs.specs.declared.steps.Covered.{Covered}
 use Rattle.runs.specs.Lent.{steps, point_after}
-use Rattle.runs.proofs.Labels.{same_label, label_on}
+use Rattle.runs.specs.Steps.{Forth, forth}
+use Rattle.runs.proofs.Labels.{label_on, boxes_whole}
 use Rattle.runs.proofs.LentSteps.{after-at, not_last}
 
 last_mixed : (n m : ℕ) → m % 5 ≡ 3 → suc (m / 5) ≡ n → m + 2 ≡ 5 * n
@@ -21,56 +26,53 @@ last_mixed n m k r = omega (arith, k, r)
 before_last : (n m : ℕ) → m + 1 < 5 * n → m % 5 ≡ 4 → suc (m / 5) ≡ n → ⊥
 before_last n m lt k r = omega (arith, lt, k, r)
 
-module _ (w b c p : List ℕ) (d n m l r : ℕ) (s : List ℕ) (round : r ≡ (m + 3) / 5) where
-  -- t is what the point's step makes of s, for any offset that its label has come from and any last constant
-  abbrev Made : List ℕ → Type 0
-  Made t = (o : ℕ) (end : List ℕ) → l ≡ (o + d * r) % 16 → t ≡ steps w b c p o d end (point_after n m) s
-
-  -- and it stands at its label, in its round and in the part that was lent for it
-  abbrev Done : List ℕ → ℕ → ℕ → List ℕ → Type 0
-  Done t l' r' part =
-      ((o : ℕ) (end : List ℕ) → l ≡ (o + d * r) % 16 → (t ≡ steps w b c p o d end (point_after n m) s) × (l' ≡ (o + d * r') % 16)) × (r' ≡ (m + 4) / 5) × (part ≡ t)
+module _ (w : Schedule) (t : Encryption) (s : Covered) (m : ℕ) (round : s.round.0 ≡ (m + 3) / 5) where
+  -- u is what the point's step makes of s, for any label that the run has begun with and any last constant
+  abbrev Done : Covered → Type 0
+  Done u = ((o : ℕ) (end : List ℕ) → Forth o t s → (u.bytes ≡ forth w t o end (point_after w.rounds m) s.bytes) × Forth o t u) × (u.round.0 ≡ (m + 4) / 5)
 
   -- a state that is not answered at this point keeps label and round
-  kept : {t : List ℕ} {l' r' : ℕ} {part : List ℕ} → (m % 5 ≡ 1 → ⊥) → Made t → l' ≡ l → r' ≡ r → part ≡ t → Done t l' r' part
-  kept {t} {l'} {r'} other made hl hr hp = (λ o end h. (made o end h, same_label o d l r l' r' hl hr h), hr ∙ omega (arith, round, other), hp)
+  kept : {x : List ℕ} → (m % 5 ≡ 1 → ⊥) → ((o : ℕ) (end : List ℕ) → Forth o t s → x ≡ forth w t o end (point_after w.rounds m) s.bytes) → Done (record s { bytes = x })
+  kept other made = (λ o end h. (made o end h, h), round ∙ omega (arith, round, other))
 
-  pub keyed_done : {t : List ℕ} {l' r' : ℕ} {part : List ℕ} → m % 5 ≡ 0 → t ≡ s ⊞ round_key w r → l' ≡ l → r' ≡ r → part ≡ t → Done t l' r' part
+  pub keyed_done : m % 5 ≡ 0 → Done (record s { bytes = s.bytes ⊞ round_key w.bytes.now s.round.0 })
   unfolding steps
-  keyed_done e ht = kept (λ other. omega arith) (λ o end h. rw (after-at n m 0 e) (ht ∙ ap (λ (k : ℕ). s ⊞ round_key w k) (omega (arith, e, round))))
+  keyed_done e = kept (λ other. omega arith) (λ o end h. rw (after-at w.rounds m 0 e) (ap (λ (k : ℕ). s.bytes ⊞ round_key w.bytes.now k) (omega (arith, e, round))))
 
-  pub boxed_done : {t : List ℕ} {l' r' : ℕ} {part : List ℕ} → m % 5 ≡ 1 → t ≡ boxed_by b (boxes_at p l) s → l' ≡ (l + d) % 16 → r' ≡ r + 1 → part ≡ t → Done t l' r' part
+  pub boxed_done : m % 5 ≡ 1
+      → Done (record { label = record { 0 = (s.label.0 + t.laid.masks.step) % 16 }; round = record { 0 = s.round.0 + 1 }; bytes = boxed_by t.boxes.now (boxes_at (offsets_of t.laid.masks) s.label.0) s.bytes })
   unfolding steps
-  boxed_done {t} {l'} {r'} e ht hl hr hp =
-      let r-is : r ≡ m / 5 = omega (arith, e, round) in (
+  boxed_done e =
+      let d : ℕ = t.laid.masks.step in
+      let r-is : s.round.0 ≡ m / 5 = omega (arith, e, round) in (
         λ o end h. (
-          rw (after-at n m 1 e) (ht ∙ ap (λ (k : ℕ). boxed_by b (boxes_at p k) s) (h ∙ ap (λ (k : ℕ). (o + d * k) % 16) r-is)),
-          label_on o d l r l' r' hl hr h,
+          rw (after-at w.rounds m 1 e) (ap (λ (p : List ℕ). boxed_by t.boxes.now p s.bytes) (boxes_whole (offsets_of t.laid.masks) s.label.0 _ (h ∙ ap (λ (k : ℕ). (o + d * k) % 16) r-is))),
+          label_on o d s.label.0 s.round.0 h,
         ),
-        hr ∙ omega (arith, e, round),
-        hp,
+        omega (arith, e, round),
       )
 
-  pub shifted_done : {t : List ℕ} {l' r' : ℕ} {part : List ℕ} → m % 5 ≡ 2 → t ≡ shift_rows s → l' ≡ l → r' ≡ r → part ≡ t → Done t l' r' part
+  pub shifted_done : m % 5 ≡ 2 → Done (record s { bytes = shift_rows s.bytes })
   unfolding steps
-  shifted_done e ht = kept (λ other. omega arith) (λ o end h. rw (after-at n m 2 e) ht)
+  shifted_done e = kept (λ other. omega arith) (λ o end h. rw (after-at w.rounds m 2 e) refl)
 
-  pub mixed_done : {t : List ℕ} {l' r' : ℕ} {part : List ℕ} → m % 5 ≡ 3 → (m + 2 ≡ 5 * n → ⊥) → t ≡ mix_columns s → l' ≡ l → r' ≡ r → part ≡ t → Done t l' r' part
+  pub mixed_done : m % 5 ≡ 3 → (m + 2 ≡ 5 * w.rounds → ⊥) → Done (record s { bytes = mix_columns s.bytes })
   unfolding steps
-  mixed_done e before ht =
-      kept (λ other. omega arith) (λ o end h. rw (after-at n m 3 e ∙ not_last n (m / 5) (closed (m / 5)) (mixed (m / 5)) (λ last. before (last_mixed n m e last))) ht)
+  mixed_done e before =
+      kept (λ other. omega arith)
+      (λ o end h. rw (after-at w.rounds m 3 e ∙ not_last w.rounds (m / 5) (closed (m / 5)) (mixed (m / 5)) (λ last. before (last_mixed w.rounds m e last))) refl)
 
-  pub closed_done : {t : List ℕ} {l' r' : ℕ} {part : List ℕ} → m + 2 ≡ 5 * n → t ≡ s ⊞ round_key w r → l' ≡ l → r' ≡ r → part ≡ t → Done t l' r' part
+  pub closed_done : m + 2 ≡ 5 * w.rounds → Done (record s { bytes = s.bytes ⊞ round_key w.bytes.now s.round.0 })
   unfolding steps
-  closed_done e ht =
+  closed_done e =
       let here : m % 5 ≡ 3 = omega (arith, e) in
-      let last : suc (m / 5) ≡ n = omega (arith, e) in
+      let last : suc (m / 5) ≡ w.rounds = omega (arith, e) in
       kept (λ other. omega arith)
-      (λ o end h. rw (after-at n m 3 here ∙ ap (λ (q : Bool). cond q (closed (m / 5)) (mixed (m / 5))) (eq-eqb (suc (m / 5)) n last)) (ht ∙ ap (λ (k : ℕ). s ⊞ round_key w k) (omega (arith, here, round))))
+      (λ o end h. rw (after-at w.rounds m 3 here ∙ ap (λ (q : Bool). cond q (closed (m / 5)) (mixed (m / 5))) (eq-eqb (suc (m / 5)) w.rounds last)) (ap (λ (k : ℕ). s.bytes ⊞ round_key w.bytes.now k) (omega (arith, here, round))))
 
-  pub compensated_done : {t : List ℕ} {l' r' : ℕ} {part : List ℕ} → m + 1 < 5 * n → m % 5 ≡ 4 → t ≡ s ⊞ round_key c l → l' ≡ l → r' ≡ r → part ≡ t → Done t l' r' part
+  pub compensated_done : m + 1 < 5 * w.rounds → m % 5 ≡ 4 → Done (record s { bytes = s.bytes ⊞ round_key t.compensations.now (s.label.0 % 16) })
   unfolding steps
-  compensated_done lt e ht =
-      let r-is : r ≡ suc (m / 5) = omega (arith, e, round) in
+  compensated_done lt e =
+      let r-is : s.round.0 ≡ suc (m / 5) = omega (arith, e, round) in
       kept (λ other. omega arith)
-      (λ o end h. rw (after-at n m 4 e ∙ not_last n (m / 5) (uncovered (m / 5)) (compensated (m / 5)) (before_last n m lt e)) (ht ∙ ap (λ (k : ℕ). s ⊞ round_key c k) (h ∙ ap (λ (j : ℕ). (o + d * j) % 16) r-is)))
+      (λ o end h. rw (after-at w.rounds m 4 e ∙ not_last w.rounds (m / 5) (uncovered (m / 5)) (compensated (m / 5)) (before_last w.rounds m lt e)) (ap (λ (k : ℕ). s.bytes ⊞ round_key t.compensations.now k) (h ∙ ap (λ (j : ℕ). (o + t.laid.masks.step * j) % 16) r-is)))

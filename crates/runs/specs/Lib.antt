@@ -1,3 +1,4 @@
 pub mod Run
 pub mod Back
 pub mod Lent
+pub mod Steps

@@ -1,5 +1,5 @@
 // The third counter of a masked run, beside positions and labels: a type too, so that none of the three is given for another.
-ghost use Rattle.std.specs.Prelude.{◌≡◌, ◌+◌, ◌<◌};
+ghost use Rattle.std.specs.Prelude.{◌≡◌, ◌+◌, ◌-◌, ◌<◌};
 
 #[derive(Clone, Copy)]
 pub(crate) struct Round(usize);
@@ -9,7 +9,7 @@ impl Round {
 
     // The number of a run's rounds, with which a decryption begins; after the last, one key more is added and one mask more is left.
     pub(crate) fn last(n: usize) -> Round
-        ensures { result.0 ≡ n }
+        ensures { result ≡ record { 0 = n } }
     {
         Round(n)
     }
@@ -17,7 +17,7 @@ impl Round {
     // The round that follows.
     pub(crate) fn next(self) -> Round
         requires { self.0 < 14 }
-        ensures { result.0 ≡ self.0 + 1 }
+        ensures { result ≡ record { 0 = self.0 + 1 } }
     {
         Round(self.0 + 1)
     }
@@ -25,7 +25,7 @@ impl Round {
     // The round before it, in a decryption.
     pub(crate) fn previous(self) -> Round
         requires { 0 < self.0 }
-        ensures { result.0 + 1 ≡ self.0 }
+        ensures { result ≡ record { 0 = self.0 - 1 } }
     {
         Round(self.0 - 1)
     }

@@ -1,148 +1,95 @@
-// Masked runs, made of the steps alone: recorded, where each step is lent its part of the record, and unrecorded, where it is lent
-// a scratch.
-ghost use Rattle.std.specs.Prelude.{◌≡◌, List, ℕ, ◌+◌, ◌*◌, ◌/◌, ◌%◌, ◌<◌, ◌≤◌, length};
-ghost use Rattle.aes.specs.Box.{s_box};
+// Masked runs, made of the steps alone: recorded, where each state is written to its part of the record, and unrecorded.
+ghost use Rattle.std.specs.Prelude.{◌≡◌, List, ℕ, ◌+◌, ◌*◌, ◌/◌, ◌%◌, ◌<◌, length};
 ghost use Rattle.aes.specs.State.{shift_rows, mix_columns};
 ghost use Rattle.aes.specs.Key.{round_key};
 ghost use Rattle.aes.specs.Record.{bytes};
-ghost use Rattle.masks.specs.Mask.{◌⊞◌, advanced, covers_of, masked_boxes, compensation, constants};
+ghost use Rattle.masks.specs.Mask.{◌⊞◌, advanced};
+ghost use Rattle.masks.specs.Order.{boxed_by, boxes_at};
+ghost use Rattle.lent.specs.Sixteen.{sixteen};
+ghost use Rattle.lent.specs.Started.{offsets_of};
 ghost use Rattle.runs.specs.Run.{masked_record, masked_cipher};
-ghost use Rattle.masks.specs.Order.{boxed_by, boxes_at, places_of};
-ghost use Rattle.runs.specs.Lent.{steps, point_after};
+ghost use Rattle.runs.specs.Lent.{point_after};
+ghost use Rattle.runs.specs.Steps.{Forth, forth};
 
 use crate::round::Round;
-use crate::steps::{Covered, add_key, boxes, compensate, cover, mix_columns, shift_rows, uncover};
-use lent::given::{Block, Masks};
-use masks::constants::Kind;
+use crate::steps::{
+    Covered, add_key, boxes, compensate, cover, cover_first, mix_columns, shift_rows, uncover,
+};
+use lent::given::Block;
+use lent::tables::{Encryption, Schedule};
 use masks::label::Label;
 
 // The states of n rounds, 5 n + 1 of them.
-pub fn recorded(
-    block: Block,
-    w: &[u8],
-    n: usize,
-    masks: Masks,
-    places: &[u16; 256],
-    covers: &[u8; 256],
-    boxes: &[u8; 4096],
-    compensations: &[u8; 256],
-    first: Label,
-    states: &mut [u8],
-)
-    requires { (0 < n) × (n < 15) × (length w.now ≡ 16 * n + 16) × (boxes.now ≡ masked_boxes s_box masks.0 masks.1) × (compensations.now ≡ constants compensation masks.0 masks.2.0) × (length states.old ≡ 80 * n + 16) × (first.0 < 16) × (places.now ≡ places_of masks.2.0) × (covers.now ≡ covers_of masks.0 masks.2.0) }
-    ensures { states.new ≡ bytes (masked_record n masks.0 (advanced masks.2.0 first.0) masks.1 w.now block.0) }
+pub fn recorded(block: Block, w: &Schedule, t: &Encryption, first: Label, states: &mut [u8])
+    requires { length states.old ≡ 80 * w.now.rounds + 16 }
+    ensures { let m = t.now.laid.masks in states.new ≡ bytes (masked_record w.now.rounds m.bytes (advanced (offsets_of m) first.0) m.step w.now.bytes.now block.0) }
 {
-    let mut s = cover(
-        block,
-        masks,
-        covers,
-        first,
-        Round::FIRST,
-        &mut states[0..16],
-    );
-    let last = 5 * n - 1;
-    let mut m = 0;
-    while m < last {
+    let mut s = cover_first(block, &t.laid, first, Round::FIRST, &mut states[0..16]);
+    let last = 5 * w.rounds() - 1;
+    for m in 0..last {
         let a = 16 * m + 16;
         let e = a + 16;
-        let t = point(
-            s,
-            w,
-            n,
-            masks,
-            places,
-            boxes,
-            compensations,
-            m,
-            &mut states[a..e],
-        );
-        s = t;
-        m += 1;
+        s = point(s, w, t, m, &mut states[a..e]);
     }
     let a = 16 * last + 16;
     let e = a + 16;
-    uncover(s, w, masks, covers, &mut states[a..e]);
+    uncover(s, w, &t.laid, &mut states[a..e]);
 }
 
-// The finished block alone, after n rounds. The last step is lent the output, and all before it a scratch.
-pub fn unrecorded(
-    block: Block,
-    w: &[u8],
-    n: usize,
-    masks: Masks,
-    places: &[u16; 256],
-    covers: &[u8; 256],
-    boxes: &[u8; 4096],
-    compensations: &[u8; 256],
-    first: Label,
-    output: &mut [u8],
-)
-    requires { (0 < n) × (n < 15) × (length w.now ≡ 16 * n + 16) × (boxes.now ≡ masked_boxes s_box masks.0 masks.1) × (compensations.now ≡ constants compensation masks.0 masks.2.0) × (length output.old ≡ 16) × (first.0 < 16) × (places.now ≡ places_of masks.2.0) × (covers.now ≡ covers_of masks.0 masks.2.0) }
-    ensures { output.new ≡ masked_cipher n masks.0 (advanced masks.2.0 first.0) masks.1 w.now block.0 }
+// The finished block alone, after n rounds.
+pub fn unrecorded(block: Block, w: &Schedule, t: &Encryption, first: Label, output: &mut [u8])
+    requires { length output.old ≡ 16 }
+    ensures { let m = t.now.laid.masks in output.new ≡ masked_cipher w.now.rounds m.bytes (advanced (offsets_of m) first.0) m.step w.now.bytes.now block.0 }
 {
-    let mut part = [0u8; 16];
-    let end = Round::last(n);
-    let mut t = cover(block, masks, covers, first, Round::FIRST, &mut part);
-    loop {
-        let u = half(t, w, masks, places, boxes);
-        t = u;
-        if u.finished(end) {
-            break;
-        }
-        let v = rest(u, masks, compensations);
-        t = v;
+    let mut s = cover(block, &t.laid, first, Round::FIRST);
+    for _ in 1..w.rounds() {
+        let u = half(s, w, t);
+        s = rest(u, t);
     }
-    let u = add_key(t, w, &mut part);
-    uncover(u, w, masks, covers, output);
+    let u = half(s, w, t);
+    let v = add_key(u, w);
+    uncover(v, w, &t.laid, output);
 }
 
 // The step at point m after the covered block, five to a round; the last round is closed. The last point uncovers, and is apart.
-fn point(
-    s: Covered,
-    w: &[u8],
-    n: usize,
-    masks: Masks,
-    places: &[u16; 256],
-    lent: &[u8; 4096],
-    compensations: &[u8; 256],
-    m: usize,
-    part: &mut [u8],
-) -> Covered
-    requires { (m + 1 < 5 * n) × (n < 15) × (s.label.0 < 16) × (s.round.0 ≡ (m + 3) / 5) × (length w.now ≡ 16 * n + 16) × (lent.now ≡ masked_boxes s_box masks.0 masks.1) × (compensations.now ≡ constants compensation masks.0 masks.2.0) × (length part.old ≡ 16) × (places.now ≡ places_of masks.2.0) }
-    ensures { ((o : ℕ) (end : List ℕ) → s.label.0 ≡ (o + masks.1 * s.round.0) % 16 → (result.bytes ≡ steps w.now lent.now compensations.now masks.2.0 o masks.1 end (point_after n m) s.bytes) × (result.label.0 ≡ (o + masks.1 * result.round.0) % 16)) × (result.round.0 ≡ (m + 4) / 5) × (part.new ≡ result.bytes) }
+fn point(s: Covered, w: &Schedule, t: &Encryption, m: usize, part: &mut [u8]) -> Covered
+    requires { (m + 1 < 5 * w.now.rounds) × (s.round.0 ≡ (m + 3) / 5) × (length part.old ≡ 16) }
+    ensures { ((o : ℕ) (end : List ℕ) → Forth o t.now s → (result.bytes ≡ forth w.now t.now o end (point_after w.now.rounds m) s.bytes) × Forth o t.now result) × (result.round.0 ≡ (m + 4) / 5) × (part.new ≡ result.bytes) }
+{
+    let next = step(s, w, t, m);
+    next.keep(part);
+    next
+}
+
+fn step(s: Covered, w: &Schedule, t: &Encryption, m: usize) -> Covered
+    requires { (m + 1 < 5 * w.now.rounds) × (s.round.0 ≡ (m + 3) / 5) }
+    ensures { ((o : ℕ) (end : List ℕ) → Forth o t.now s → (result.bytes ≡ forth w.now t.now o end (point_after w.now.rounds m) s.bytes) × Forth o t.now result) × (result.round.0 ≡ (m + 4) / 5) }
 {
     match m % 5 {
-        0 => add_key(s, w, part),
-        1 => boxes(s, masks, places, lent, part),
-        2 => shift_rows(s, part),
+        0 => add_key(s, w),
+        1 => boxes(s, t),
+        2 => shift_rows(s),
         3 => {
-            if m + 2 == 5 * n {
-                return add_key(s, w, part);
+            if m + 2 == 5 * w.rounds() {
+                return add_key(s, w);
             }
-            mix_columns(s, part)
+            mix_columns(s)
         }
-        _ => compensate(s, masks, Kind::Compensation, compensations, part),
+        _ => compensate(s, t),
     }
 }
 
-// What every round begins with, where nothing is recorded: key, boxes and ShiftRows. It is apart from the recorded points, so that
-// the compiler sees that what the steps write here is never read.
-fn half(s: Covered, w: &[u8], masks: Masks, places: &[u16; 256], lent: &[u8; 4096]) -> Covered
-    requires { (s.label.0 < 16) × (s.round.0 < 14) × (16 * s.round.0 + 16 ≤ length w.now) × (lent.now ≡ masked_boxes s_box masks.0 masks.1) × (places.now ≡ places_of masks.2.0) }
-    ensures { (result.bytes ≡ shift_rows (boxed_by lent.now (boxes_at masks.2.0 s.label.0) (s.bytes ⊞ round_key w.now s.round.0))) × (result.label.0 ≡ (s.label.0 + masks.1) % 16) × (result.round.0 ≡ s.round.0 + 1) }
+// What every round begins with: key, boxes and ShiftRows.
+fn half(s: Covered, w: &Schedule, t: &Encryption) -> Covered
+    requires { s.round.0 < w.now.rounds }
+    ensures { result ≡ record { label = record { 0 = (s.label.0 + t.now.laid.masks.step) % 16 }; round = record { 0 = s.round.0 + 1 }; bytes = shift_rows (boxed_by t.now.boxes.now (boxes_at (offsets_of t.now.laid.masks) s.label.0) (s.bytes ⊞ round_key w.now.bytes.now s.round.0)) } }
 {
-    let mut part = [0u8; 16];
-    let t = add_key(s, w, &mut part);
-    let u = boxes(t, masks, places, lent, &mut part);
-    shift_rows(u, &mut part)
+    shift_rows(boxes(add_key(s, w), t))
 }
 
 // What a whole round ends with: MixColumns and compensation.
-fn rest(s: Covered, masks: Masks, compensations: &[u8; 256]) -> Covered
-    requires { (s.label.0 < 16) × (compensations.now ≡ constants compensation masks.0 masks.2.0) }
-    ensures { (result.bytes ≡ mix_columns s.bytes ⊞ round_key compensations.now s.label.0) × (result.label.0 ≡ s.label.0) × (result.round.0 ≡ s.round.0) }
+fn rest(s: Covered, t: &Encryption) -> Covered
+    ensures { result ≡ record s { bytes = mix_columns s.bytes ⊞ sixteen t.now.compensations.now (s.label.0 % 16) } }
 {
-    let mut part = [0u8; 16];
-    let t = mix_columns(s, &mut part);
-    compensate(t, masks, Kind::Compensation, compensations, &mut part)
+    compensate(mix_columns(s), t)
 }

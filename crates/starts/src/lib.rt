@@ -3,7 +3,6 @@
 
 mod given;
 mod many;
-mod over;
 mod published;
 
 pub use given::{decrypted, decryption_recorded, encrypted, recorded};

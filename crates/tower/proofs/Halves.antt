@@ -8,7 +8,7 @@ use Rattle.aes.specs.Byte.{◌⊕◌, table}
 use Rattle.aes.proofs.Xor.{sums, xor_self}
 use Rattle.aes.proofs.Listed.{agree}
 use Rattle.tower.proofs.Products.{double_xor, times_xor_left, times_xor_right, times_zero, times_below, times_comm}
-use Rattle.tower.specs.Tower.{times_by, half_modulus, double_half, constant, ◌⊗◌, inverse_half, norm, tinv, covered_norm, covered_high, covered_low}
+use Rattle.tower.specs.Tower.{times_by, half_modulus, double_half, constant, ◌⊗◌, inverse_half, norm, td1, td2, tm, tinv, covered_norm, covered_high, covered_low}
 
 double_keeps : (a b : ℕ) → double_half (a ⊕ b) ≡ double_half a ⊕ double_half b
 unfolding double_half
@@ -81,17 +81,14 @@ low-covered xh xl mh ml d hl hd = sum
     sum = simp (half_left, half_right, half_comm d ml hd hl, sums)
 
 -- what the tables give are halves
-pub covered_norm_half : (xh xl mh ml : ℕ) → xh < 16 → xl < 16 → mh < 16 → ml < 16 → covered_norm xh xl mh ml < 16
-covered_norm_half xh xl mh ml p q r s =
-    rw (norm-covered xh xl mh ml q r s) (half_xor _ _ (norm_half _ _ (half_xor xh mh p r) (half_xor xl ml q s)) r)
+pub td1_half : (x m : ℕ) → x < 16 → m < 16 → td1 x m < 16
+td1_half x m p q = half_xor _ m (half_half _ _ (half_half _ _ (half_xor x m p q))) q
+
+pub td2_half : (x y : ℕ) → x < 16 → y < 16 → td2 x y < 16
+td2_half x y p q = half_half _ y (half_xor x y p q)
+
+pub tm_half : (x y : ℕ) → x < 16 → y < 16 → tm x y < 16
+tm_half x y p q = half_half x y p
 
 pub tinv_half : (x m : ℕ) → x < 16 → m < 16 → tinv x m < 16
 tinv_half x m p q = half_xor _ m (inverse_half_lem _ (half_xor x m p q)) q
-
-pub covered_high_half : (xh mh ml i : ℕ) → xh < 16 → mh < 16 → ml < 16 → i < 16 → covered_high xh mh ml i < 16
-covered_high_half xh mh ml i p q r s =
-    half_xor _ _ (half_xor _ _ (half_xor _ _ (half_xor _ _ (half_half xh _ p) q) (half_half _ mh (half_xor i _ s (half_xor mh ml q r)))) (half_half xh ml p)) (half_half mh ml q)
-
-pub covered_low_half : (xl mh ml i h : ℕ) → xl < 16 → mh < 16 → ml < 16 → i < 16 → h < 16 → covered_low xl mh ml i h < 16
-covered_low_half xl mh ml i h p q r s u =
-    half_xor _ _ (half_xor _ _ (half_xor _ _ (half_xor _ _ (half_xor _ _ (half_xor _ _ (half_half xl i p) r) (half_half i ml s)) (half_half xl mh p)) u) q) (half_half mh ml q)

@@ -1,13 +1,14 @@
 // Masked inversion in the tower, by the formulas of document 000, 4.2.4: x is a byte A covered by the mask r, and the answer is the
 // inverse of A covered by r. In the tower the halves of A are covered by those of r, its norm and the inverse of that by the higher one.
 // What is covered is looked up, and never xored with what covers it.
-ghost use Rattle.std.specs.Prelude.{◌≡◌, ◌<◌};
+ghost use Rattle.std.specs.Prelude.{◌≡◌};
 ghost use Rattle.beside.specs.Inversion.{masked_inverse};
-ghost use Rattle.tower.specs.Tower.{td1, td2, tm, tinv, pairs, covered_norm, covered_high, covered_low};
+ghost use Rattle.tower.specs.Tower.{covered_norm, covered_high, covered_low};
 
 use crate::basis::{from_tower, to_tower};
+use crate::half::Half;
 use crate::tables;
-use crate::tables::entry;
+use crate::tables::Tables;
 
 pub fn tower_inverse(x: u8, r: u8) -> u8
     ensures { result ≡ masked_inverse x r }
@@ -16,67 +17,50 @@ pub fn tower_inverse(x: u8, r: u8) -> u8
     let sums = tables::sums();
     let products = tables::products();
     let inverses = tables::inverses();
-    let t = to_tower(x);
-    let m = to_tower(r);
-    let d = norm(&squares, &sums, &products, t / 16, t % 16, m / 16, m % 16);
-    let i = inverted(&inverses, d, m / 16);
-    let h = high(&products, t / 16, m / 16, m % 16, i);
-    let l = low(&products, t % 16, m / 16, m % 16, i, h);
-    from_tower(16 * h + l)
+    let tables = Tables::lent(&squares, &sums, &products, &inverses);
+    let (xh, xl) = Half::both(to_tower(x));
+    let (mh, ml) = Half::both(to_tower(r));
+    let d = norm(tables, xh, xl, mh, ml);
+    // (4.8): its inverse, covered by mh.
+    let i = tables.inverse(d, mh);
+    let h = high(tables, xh, mh, ml, i);
+    let l = low(tables, xl, mh, ml, i, h);
+    from_tower(h.joined(l))
 }
 
 // (4.7): the norm, covered by mh.
-fn norm(
-    squares: &[u8; 256],
-    sums: &[u8; 256],
-    products: &[u8; 256],
-    xh: u8,
-    xl: u8,
-    mh: u8,
-    ml: u8,
-) -> u8
-    requires { (xh < 16) × (xl < 16) × (mh < 16) × (ml < 16) × (squares.now ≡ pairs td1) × (sums.now ≡ pairs td2) × (products.now ≡ pairs tm) }
-    ensures { (result ≡ covered_norm xh xl mh ml) × (result < 16) }
+fn norm(tables: Tables, xh: Half, xl: Half, mh: Half, ml: Half) -> Half
+    ensures { result.value ≡ covered_norm xh.value xl.value mh.value ml.value }
 {
-    entry(squares, xh, mh)
-        ^ entry(sums, xh, xl)
-        ^ entry(products, xh, ml)
-        ^ entry(products, xl, mh)
-        ^ entry(products, mh ^ ml, ml)
-}
-
-// (4.8): its inverse, covered by mh.
-fn inverted(inverses: &[u8; 256], d: u8, mh: u8) -> u8
-    requires { (d < 16) × (mh < 16) × (inverses.now ≡ pairs tinv) }
-    ensures { (result ≡ tinv d mh) × (result < 16) }
-{
-    entry(inverses, d, mh)
+    tables.square(xh, mh)
+        ^ tables.sum(xh, xl)
+        ^ tables.product(xh, ml)
+        ^ tables.product(xl, mh)
+        ^ tables.product(mh ^ ml, ml)
 }
 
 // (4.9): the higher half of the answer, covered by mh. It takes the inverse covered by ml: the two masks are added first, so that the
 // inverse is bare nowhere.
-fn high(products: &[u8; 256], xh: u8, mh: u8, ml: u8, i: u8) -> u8
-    requires { (xh < 16) × (mh < 16) × (ml < 16) × (i < 16) × (products.now ≡ pairs tm) }
-    ensures { (result ≡ covered_high xh mh ml i) × (result < 16) }
+fn high(tables: Tables, xh: Half, mh: Half, ml: Half, i: Half) -> Half
+    ensures { result.value ≡ covered_high xh.value mh.value ml.value i.value }
 {
     let j = i ^ (mh ^ ml);
-    entry(products, xh, j)
+    tables.product(xh, j)
         ^ mh
-        ^ entry(products, j, mh)
-        ^ entry(products, xh, ml)
-        ^ entry(products, mh, ml)
+        ^ tables.product(j, mh)
+        ^ tables.product(xh, ml)
+        ^ tables.product(mh, ml)
 }
 
 // (4.10): the lower half of the answer, covered by ml, with the higher one.
-fn low(products: &[u8; 256], xl: u8, mh: u8, ml: u8, i: u8, h: u8) -> u8
-    requires { (xl < 16) × (mh < 16) × (ml < 16) × (i < 16) × (h < 16) × (products.now ≡ pairs tm) }
-    ensures { (result ≡ covered_low xl mh ml i h) × (result < 16) }
+fn low(tables: Tables, xl: Half, mh: Half, ml: Half, i: Half, h: Half) -> Half
+    ensures { result.value ≡ covered_low xl.value mh.value ml.value i.value h.value }
 {
-    entry(products, xl, i)
+    tables.product(xl, i)
         ^ ml
-        ^ entry(products, i, ml)
-        ^ entry(products, xl, mh)
+        ^ tables.product(i, ml)
+        ^ tables.product(xl, mh)
         ^ h
         ^ mh
-        ^ entry(products, mh, ml)
+        ^ tables.product(mh, ml)
 }

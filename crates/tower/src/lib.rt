@@ -2,6 +2,7 @@
 #![tactic(auto)]
 
 mod basis;
+mod half;
 mod inversion;
 mod sbox;
 mod tables;

@@ -1,9 +1,11 @@
 // The four tables of document 000, 4.2.4, by its names: entry 16 a + b is for the halves a and b. Each is stored, and has one accessor.
 // Beside them what a box adds, for each label.
-ghost use Rattle.std.specs.Prelude.{◌≡◌, ◌+◌, ◌*◌, ◌<◌};
+ghost use Rattle.std.specs.Prelude.{◌≡◌, ◌+◌, ◌*◌};
 ghost use Rattle.aes.specs.Byte.{table};
 ghost use Rattle.aes.specs.State.{at};
 ghost use Rattle.tower.specs.Tower.{td1, td2, tm, tinv, pairs, change};
+
+use crate::half::Half;
 
 // x^2 {e} under the mask m, by x covered by m, and m.
 const TD1: [u8; 256] = *b"\
@@ -119,17 +121,68 @@ pub(crate) fn changes() -> [u8; 16]
     CHANGES
 }
 
-// The entry of two halves.
-pub(crate) fn entry(table: &[u8; 256], a: u8, b: u8) -> u8
-    requires { (a < 16) × (b < 16) }
-    ensures { result ≡ at table.now (16 * a + b) }
-{
-    let i = 16 * a + b;
-    table[wide(i)]
+// The four tables, lent together.
+#[derive(Clone, Copy)]
+pub(crate) struct Tables<'a> {
+    squares: &'a [u8; 256],
+    sums: &'a [u8; 256],
+    products: &'a [u8; 256],
+    inverses: &'a [u8; 256],
+    ghost as_named: { (squares.now ≡ pairs td1) × (sums.now ≡ pairs td2) × (products.now ≡ pairs tm) × (inverses.now ≡ pairs tinv) },
 }
 
-fn wide(x: u8) -> usize
-    ensures { result ≡ x }
+impl<'a> Tables<'a> {
+    pub(crate) fn lent(
+        squares: &'a [u8; 256],
+        sums: &'a [u8; 256],
+        products: &'a [u8; 256],
+        inverses: &'a [u8; 256],
+    ) -> Tables<'a>
+        requires { (squares.now ≡ pairs td1) × (sums.now ≡ pairs td2) × (products.now ≡ pairs tm) × (inverses.now ≡ pairs tinv) }
+    {
+        Tables {
+            squares,
+            sums,
+            products,
+            inverses,
+        }
+    }
+
+    // x^2 {e} under the mask m.
+    pub(crate) fn square(self, x: Half, m: Half) -> Half
+        ensures { result.value ≡ td1 x.value m.value }
+    {
+        let value = entry(self.squares, x, m);
+        Half { value }
+    }
+
+    // (x + y) y.
+    pub(crate) fn sum(self, x: Half, y: Half) -> Half
+        ensures { result.value ≡ td2 x.value y.value }
+    {
+        let value = entry(self.sums, x, y);
+        Half { value }
+    }
+
+    pub(crate) fn product(self, x: Half, y: Half) -> Half
+        ensures { result.value ≡ tm x.value y.value }
+    {
+        let value = entry(self.products, x, y);
+        Half { value }
+    }
+
+    // The inverse of x under the mask m.
+    pub(crate) fn inverse(self, x: Half, m: Half) -> Half
+        ensures { result.value ≡ tinv x.value m.value }
+    {
+        let value = entry(self.inverses, x, m);
+        Half { value }
+    }
+}
+
+// The entry of two halves.
+fn entry(table: &[u8; 256], a: Half, b: Half) -> u8
+    ensures { result ≡ at table.now (16 * a.value + b.value) }
 {
-    x as usize
+    table[a.joined(b) as usize]
 }

@@ -2,61 +2,39 @@
 // how many of each source were run and how many differ. A damaged wrapped key must be refused.
 #![tactic(auto)]
 
-mod calls;
 mod table;
 
-use aes::reply::{DONE, INTEGRITY};
-use calls::tried;
-use lines::counts::{CELLS, report};
-use lines::input::{read, room};
-use lines::source::{Kind, kind_of};
-use lines::text::{part, past};
-use std::io::Print;
-use wrap_lines::trial::Trial;
+use aes::reply::Refusal;
+use lines::counts::Counts;
+use lines::source::Source;
+use table::Row;
+use wrap_lines::trial::{Engine, Trial};
 
 fn main(rt: HostRuntime) {
-    let mut text = room();
-    let n = read(&rt, &mut text);
-    let mut counts = [0u64; CELLS];
-    run(&rt, &text[0..n], &mut counts);
-    table::print(&rt, &counts);
+    lines::program::run(&rt, table::TITLE, &table::ROWS, one_line);
 }
 
-// Runs the first line of a text, and answers whether it could be read.
-fn one_line(text: &[u8], counts: &mut [u64; CELLS]) -> bool {
-    let line = part(text, 0, b'\n');
-    let kind = kind_of(line, counts);
-    match kind {
-        Kind::Header => true,
-        Kind::RfcWrap => tried(
-            DONE,
-            Trial::whole(line),
-            table::PLAIN_RFC,
-            table::MASKED_RFC,
-            counts,
-        ),
-        Kind::NistWrap => tried(
-            DONE,
-            Trial::whole(line),
-            table::PLAIN_NIST,
-            table::MASKED_NIST,
-            counts,
-        ),
-        Kind::DamagedWrap => tried(
-            INTEGRITY,
-            Trial::damaged(line),
-            table::PLAIN_DAMAGED,
-            table::MASKED_DAMAGED,
-            counts,
-        ),
-        _ => false,
-    }
+fn one_line(source: Source, line: &[u8], _below: &[u8], counts: &mut Counts) -> Option<()> {
+    let (trial, plain, masked) = match source {
+        Source::RfcWrap => (Trial::unwrapped(line)?, Row::PlainRfc, Row::MaskedRfc),
+        Source::NistWrap => (Trial::unwrapped(line)?, Row::PlainNist, Row::MaskedNist),
+        Source::DamagedWrap => (Trial::damaged(line)?, Row::PlainDamaged, Row::MaskedDamaged),
+        _ => return None,
+    };
+    let (by_plain, by_masked) = trial.run(unwrapped);
+    counts.add(plain as usize, by_plain);
+    counts.add(masked as usize, by_masked);
+    Some(())
 }
 
-fn run(rt: &impl Print, text: &[u8], counts: &mut [u64; CELLS]) {
-    let mut at = 0;
-    while at < text.len() {
-        report(rt, one_line(&text[at..], counts), counts);
-        at = past(text, at, b'\n');
+fn unwrapped(
+    engine: Engine,
+    schedule: &[u8],
+    wrapped: &[u8],
+    room: &mut [u8],
+) -> Result<(), Refusal> {
+    match engine {
+        Engine::Plain => wrap::unwrap(schedule, wrapped, room),
+        Engine::Masked(offset) => wrap::unwrap_masked(schedule, wrapped, room, offset),
     }
 }

@@ -1,30 +1,22 @@
-// The rows of the table, and the table before anything is counted.
-use lines::counts::{CELLS, print_table};
-use std::io::Print;
-
-pub const PLAIN_RFC: usize = 0;
-
-pub const PLAIN_NIST: usize = 1;
-
-pub const PLAIN_DAMAGED: usize = 2;
-
-pub const MASKED_RFC: usize = 3;
-
-pub const MASKED_NIST: usize = 4;
-
-pub const MASKED_DAMAGED: usize = 5;
-
-pub fn print(rt: &impl Print, counts: &[u64; CELLS]) {
-    let mut table = *b"\
-AES-256 vectors, unwrapping                    run   differ
-  plain engine: RFC 3394                         0        0
-  plain engine: NIST key wrap                    0        0
-  plain engine: NIST, damaged, refused           0        0
-  masked engine: RFC 3394                        0        0
-  masked engine: NIST key wrap                   0        0
-  masked engine: NIST, damaged, refused          0        0
-  all                                            0        0
-lines that could not be read                     0
-";
-    print_table(rt, &mut table, counts);
+// The rows of the table.
+#[derive(Clone, Copy)]
+pub enum Row {
+    PlainRfc,
+    PlainNist,
+    PlainDamaged,
+    MaskedRfc,
+    MaskedNist,
+    MaskedDamaged,
 }
+
+pub const TITLE: &str = "AES-256 vectors, unwrapping";
+
+// The names of the rows, in their order.
+pub const ROWS: [&str; 6] = [
+    "plain engine: RFC 3394",
+    "plain engine: NIST key wrap",
+    "plain engine: NIST, damaged, refused",
+    "masked engine: RFC 3394",
+    "masked engine: NIST key wrap",
+    "masked engine: NIST, damaged, refused",
+];

@@ -1,37 +1,54 @@
-// The rows of the table, of which the vectors of ECB have one for each length of a key, and the table before anything is counted.
-use lines::counts::{CELLS, print_table};
-use std::io::Print;
+// The rows of the table, of which the vectors of ECB have one for each length of a key.
+use lines::vector::{Length, Way};
 
-pub const ECB_ENCRYPTED: usize = 0;
+#[derive(Clone, Copy)]
+pub enum Row {
+    Ecb128Encrypted,
+    Ecb192Encrypted,
+    Ecb256Encrypted,
+    Ecb128Decrypted,
+    Ecb192Decrypted,
+    Ecb256Decrypted,
+    KeyExpansion,
+    States,
+    ChainsEncrypted,
+    ChainsDecrypted,
+    Converted,
+}
 
-pub const ECB_DECRYPTED: usize = 3;
+pub const TITLE: &str = "AES vectors, plain engine";
 
-pub const KEY_EXPANSION: usize = 6;
+// The names of the rows, in their order.
+pub const ROWS: [&str; 11] = [
+    "NIST ECB, 128 bits, encrypted",
+    "NIST ECB, 192 bits, encrypted",
+    "NIST ECB, 256 bits, encrypted",
+    "NIST ECB, 128 bits, decrypted",
+    "NIST ECB, 192 bits, decrypted",
+    "NIST ECB, 256 bits, decrypted",
+    "FIPS 197 A.1 to A.3 key expansion",
+    "FIPS 197 C.3 states",
+    "Monte Carlo chains, encrypted",
+    "Monte Carlo chains, decrypted",
+    "NIST ECB, converted from form 1",
+];
 
-pub const STATES: usize = 7;
+impl Row {
+    pub fn of_ecb(way: Way, length: Length) -> Row {
+        match (way, length) {
+            (Way::Encrypt, Length::Short) => Row::Ecb128Encrypted,
+            (Way::Encrypt, Length::Middle) => Row::Ecb192Encrypted,
+            (Way::Encrypt, Length::Long) => Row::Ecb256Encrypted,
+            (Way::Decrypt, Length::Short) => Row::Ecb128Decrypted,
+            (Way::Decrypt, Length::Middle) => Row::Ecb192Decrypted,
+            (Way::Decrypt, Length::Long) => Row::Ecb256Decrypted,
+        }
+    }
 
-pub const CHAINS_ENCRYPTED: usize = 8;
-
-pub const CHAINS_DECRYPTED: usize = 9;
-
-pub const CONVERTED: usize = 10;
-
-pub fn print(rt: &impl Print, counts: &[u64; CELLS]) {
-    let mut table = *b"\
-AES vectors, plain engine                      run   differ
-  NIST ECB, 128 bits, encrypted                  0        0
-  NIST ECB, 192 bits, encrypted                  0        0
-  NIST ECB, 256 bits, encrypted                  0        0
-  NIST ECB, 128 bits, decrypted                  0        0
-  NIST ECB, 192 bits, decrypted                  0        0
-  NIST ECB, 256 bits, decrypted                  0        0
-  FIPS 197 A.1 to A.3 key expansion              0        0
-  FIPS 197 C.3 states                            0        0
-  Monte Carlo chains, encrypted                  0        0
-  Monte Carlo chains, decrypted                  0        0
-  NIST ECB, converted from form 1                0        0
-  all                                            0        0
-lines that could not be read                     0
-";
-    print_table(rt, &mut table, counts);
+    pub fn of_chains(way: Way) -> Row {
+        match way {
+            Way::Encrypt => Row::ChainsEncrypted,
+            Way::Decrypt => Row::ChainsDecrypted,
+        }
+    }
 }

@@ -4,110 +4,88 @@
 
 mod rack;
 
-use aes::reply::Valued;
+use aes::reply::Refusal;
+use aes::tables;
 use aes::tables::entry;
-use aes::{reply, tables};
+use std::fmt::Display;
+use std::io;
 use std::io::Print;
 
 fn main(rt: HostRuntime) {
-    rack::job(&rt);
-    print(&rt, b"\nThe field under the cipher\n\n");
-    products(&rt);
-    boxes(&rt);
-    powers(&rt);
-    logarithms(&rt);
+    // A program has no status of its own to tell of a lost line: what follows it is left out.
+    let _ = examples(&rt);
 }
 
-fn products(rt: &impl Print) {
-    example(rt, b"57 times 83", aes::multiply(0x57, 0x83), b"FIPS 4.2");
-    example(rt, b"57 times 13", aes::multiply(0x57, 0x13), b"FIPS 4.2");
-    example(rt, b"57 times 02", aes::multiply(0x57, 0x02), b"FIPS 4.2");
-    example(rt, b"ae times 02", aes::multiply(0xae, 0x02), b"FIPS 4.2");
-    example(
+fn examples(rt: &impl Print) -> io::Result<()> {
+    rack::job(rt)?;
+    print!(rt; "\nThe field under the cipher\n\n")?;
+    products(rt)?;
+    boxes(rt)?;
+    powers(rt)?;
+    logarithms(rt)
+}
+
+fn products(rt: &impl Print) -> io::Result<()> {
+    value(rt, "57 times 83", aes::multiply(0x57, 0x83), "FIPS 4.2")?;
+    value(rt, "57 times 13", aes::multiply(0x57, 0x13), "FIPS 4.2")?;
+    value(rt, "57 times 02", aes::multiply(0x57, 0x02), "FIPS 4.2")?;
+    value(rt, "ae times 02", aes::multiply(0xae, 0x02), "FIPS 4.2")?;
+    value(
         rt,
-        b"00 times ff",
+        "00 times ff",
         aes::multiply(0x00, 0xff),
-        b"00 is a factor",
-    );
-    example(
-        rt,
-        b"inverse of 53",
-        aes::inverse(0x53),
-        b"53 times ca is 01",
-    );
-    example(rt, b"inverse of 00", aes::inverse(0x00), b"FIPS 5.1.1");
+        "00 is a factor",
+    )?;
+    value(rt, "inverse of 53", aes::inverse(0x53), "53 times ca is 01")?;
+    value(rt, "inverse of 00", aes::inverse(0x00), "FIPS 5.1.1")
 }
 
-fn boxes(rt: &impl Print) {
+fn boxes(rt: &impl Print) -> io::Result<()> {
     let sbox = tables::sbox();
     let inv_sbox = tables::inv_sbox();
-    example(rt, b"S of 00", entry(&sbox, 0x00), b"FIPS 5.1.1");
-    example(rt, b"S of 53", entry(&sbox, 0x53), b"FIPS 5.1.1");
-    example(
-        rt,
-        b"inverse S of ed",
-        entry(&inv_sbox, 0xed),
-        b"FIPS 5.3.2",
-    );
+    value(rt, "S of 00", entry(&sbox, 0x00), "FIPS 5.1.1")?;
+    value(rt, "S of 53", entry(&sbox, 0x53), "FIPS 5.1.1")?;
+    value(rt, "inverse S of ed", entry(&inv_sbox, 0xed), "FIPS 5.3.2")
 }
 
-fn powers(rt: &impl Print) {
-    answer(rt, b"power 0", aes::power(0), b"");
-    answer(rt, b"power 1", aes::power(1), b"the generator");
-    answer(rt, b"power 254", aes::power(254), b"03 times f6 is 01");
-    answer(rt, b"power 255", aes::power(255), b"254 is the last");
+fn powers(rt: &impl Print) -> io::Result<()> {
+    answer(rt, "power 0", aes::power(0), "")?;
+    answer(rt, "power 1", aes::power(1), "the generator")?;
+    answer(rt, "power 254", aes::power(254), "03 times f6 is 01")?;
+    answer(rt, "power 255", aes::power(255), "254 is the last")
 }
 
-fn logarithms(rt: &impl Print) {
-    answer(rt, b"logarithm of 01", aes::logarithm(0x01), b"");
+fn logarithms(rt: &impl Print) -> io::Result<()> {
+    answer(rt, "logarithm of 01", aes::logarithm(0x01), "")?;
     answer(
         rt,
-        b"logarithm of f6",
+        "logarithm of f6",
         aes::logarithm(0xf6),
-        b"254 in decimal",
-    );
-    answer(rt, b"logarithm of 00", aes::logarithm(0x00), b"00 has none");
+        "254 in decimal",
+    )?;
+    answer(rt, "logarithm of 00", aes::logarithm(0x00), "00 has none")
 }
 
-fn example(rt: &impl Print, name: &[u8], value: u8, ground: &[u8]) {
-    column(rt, name);
-    let _ = print!(rt; "{value:02x}");
-    ending(rt, ground);
+fn value(rt: &impl Print, name: &str, value: u8, ground: &str) -> io::Result<()> {
+    line(rt, name, format_args!("{value:02x}"), ground)
 }
 
-// A value with its reply: a refusal shows its number and no value.
-fn answer(rt: &impl Print, name: &[u8], got: Valued, ground: &[u8]) {
-    if got.number == reply::DONE {
-        example(rt, name, got.value, ground);
-    } else {
-        column(rt, name);
-        print(rt, b"refused, reply ");
-        let _ = print!(rt; "{}", got.number);
-        ending(rt, ground);
+// A value; a refusal shows its number in place of one.
+fn answer(rt: &impl Print, name: &str, got: Result<u8, Refusal>, ground: &str) -> io::Result<()> {
+    match got {
+        Ok(found) => value(rt, name, found, ground),
+        Err(refusal) => {
+            let number = refusal as u8;
+            line(rt, name, format_args!("refused, reply {number}"), ground)
+        }
     }
 }
 
-// A name, and blanks up to the column of the values.
-fn column(rt: &impl Print, name: &[u8]) {
-    print(rt, b"  ");
-    print(rt, name);
-    print_from(rt, b"                  ", name.len());
-}
-
-fn ending(rt: &impl Print, ground: &[u8]) {
-    if 0 < ground.len() {
-        print(rt, b"   ");
-        print(rt, ground);
+// A name, what stands in the column of the values, and the place that it is from, where one is named.
+fn line(rt: &impl Print, name: &str, shown: impl Display + Drop, ground: &str) -> io::Result<()> {
+    print!(rt; "  {name:<18}{shown}")?;
+    if !ground.is_empty() {
+        print!(rt; "   {ground}")?;
     }
-    print(rt, b"\n");
-}
-
-pub(crate) fn print(rt: &impl Print, text: &[u8]) {
-    let _ = rt.write_all(text);
-}
-
-fn print_from(rt: &impl Print, text: &[u8], from: usize) {
-    if from < text.len() {
-        print(rt, &text[from..]);
-    }
+    print!(rt; "\n")
 }

@@ -1,4 +1,2 @@
-pub mod Done
-pub mod Sizes
 pub mod Checked
 pub mod Unique

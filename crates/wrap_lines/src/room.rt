@@ -4,57 +4,57 @@ ghost use Rattle.std.specs.Prelude.{◌≤◌};
 use lines::text::read_hex;
 
 // As many bytes as a wrapped key may have.
-pub const ROOM: usize = 264;
+const ROOM: usize = 264;
 
 // What stands in a room where nothing was written.
-pub const UNTOUCHED: u8 = 0xa5;
+const UNTOUCHED: u8 = 0xa5;
 
-// How much of the room is lent, what is in all of it, and whether that could be read.
-#[derive(Clone, Copy)]
+// How much of the room is lent, and what is in all of it.
+#[derive(Clone, Copy, PartialEq)]
 pub struct Room {
-    pub read: bool,
-    pub size: usize,
-    pub bytes: [u8; ROOM],
+    size: usize,
+    bytes: [u8; ROOM],
+    ghost fits: { size ≤ 264 },
 }
 
 impl Room {
-    pub fn untouched(size: usize) -> Room {
+    // Untouched, except for what is written to the front of this size; and what is answered of that.
+    pub fn of<T, F: FnOnce(&mut [u8]) -> T>(size: usize, write: F) -> (Room, T)
+        requires fits { size ≤ 264 }
+        requires callable { F.IsAlwaysCallable write }
+    {
+        let mut bytes = [UNTOUCHED; ROOM];
+        let answer = write(&mut bytes[..size]);
+        (Room { size, bytes }, answer)
+    }
+
+    pub fn untouched(size: usize) -> Room
+        requires { size ≤ 264 }
+    {
         Room {
-            read: true,
             size,
             bytes: [UNTOUCHED; ROOM],
         }
     }
 
     // With the bytes that a field spells at the front.
-    pub fn of_field(field: &[u8]) -> Room
-        ensures { result.size ≤ 264 }
-    {
-        let mut bytes = [UNTOUCHED; ROOM];
+    pub fn of_field(field: &[u8]) -> Option<Room> {
         let size = field.len() / 2;
         if ROOM < size {
-            return Room {
-                read: false,
-                size: 0,
-                bytes,
-            };
+            return None;
         }
-        let read = read_hex(field, front_mut(&mut bytes, size));
-        Room { read, size, bytes }
+        let (room, read) = Room::of(size, |front| read_hex(field, front));
+        read?;
+        Some(room)
     }
-}
 
-// The front of a room; all of it, where it has less.
-pub fn front(room: &[u8], size: usize) -> &[u8] {
-    if room.len() < size {
-        return room;
+    pub fn size(&self) -> usize
+        ensures { result ≤ 264 }
+    {
+        self.size
     }
-    &room[0..size]
-}
 
-pub fn front_mut(room: &mut [u8], size: usize) -> &mut [u8] {
-    if room.len() < size {
-        return room;
+    pub fn front(&self) -> &[u8] {
+        &self.bytes[..self.size]
     }
-    &mut room[0..size]
 }

@@ -1,10 +1,8 @@
 // What a line asks of a call, which is made by the plain engine and by the masked one at every offset.
-ghost use Rattle.std.specs.Prelude.{◌≡◌, ◌-◌};
-
-use crate::room::{ROOM, Room};
-use check::same;
-use lines::counts::{CELLS, Tally, add};
-use lines::text::{part, read_hex};
+use crate::room::Room;
+use aes::reply::Refusal;
+use lines::counts::Tally;
+use lines::text::{field, hex};
 
 // The masked engine has an offset.
 #[derive(Clone, Copy)]
@@ -13,95 +11,90 @@ pub enum Engine {
     Masked(u8),
 }
 
-// One by the plain engine, and sixteen by the masked one.
-const CALLS: usize = 17;
-
 // As long as a key of a line is with the space after it.
 const KEY: usize = 65;
 
-// Whether the line could be read, how many calls are left to make, what they are given and should write, and what came of those so far.
+// What the calls are given, how they should end, and what they should leave in a room.
 #[derive(Clone, Copy)]
 pub struct Trial {
-    pub read: bool,
-    pub left: usize,
-    pub schedule: [u8; 240],
-    pub key_data: Room,
-    pub wrapped: Room,
-    plain: Tally,
-    masked: Tally,
+    schedule: [u8; 240],
+    given: Room,
+    outcome: Result<(), Refusal>,
+    left: Room,
 }
 
 impl Trial {
-    // The line should be so long. No call is made for one that could not be read; where its key is refused, a schedule of zeros leads to
-    // differences.
-    fn new(line: &[u8], length: usize, key_data: Room, wrapped: Room) -> Trial {
-        let mut key = [0u8; 32];
-        let read = read_hex(part(line, 0, b' '), &mut key)
-            & key_data.read
-            & wrapped.read
-            & (line.len() == length);
-        let mut schedule = [0u8; 240];
-        aes::expand_key(&key, &mut schedule);
-        Trial {
-            read,
-            left: if read { CALLS } else { 0 },
+    // Where the key of a line is refused, a schedule of zeros leads to differences.
+    fn new(line: &[u8], given: Room, outcome: Result<(), Refusal>, left: Room) -> Option<Trial> {
+        let key: [u8; 32] = hex(field(line, 0))?;
+        let mut schedule = [0; 240];
+        let _ = aes::expand_key(&key, &mut schedule);
+        Some(Trial {
             schedule,
-            key_data,
-            wrapped,
-            plain: Tally::none(),
-            masked: Tally::none(),
-        }
+            given,
+            outcome,
+            left,
+        })
     }
 
-    // A key, key data and the wrapped key that they make.
-    pub fn whole(line: &[u8]) -> Trial {
-        let key_data = Room::of_field(part(line, 1, b' '));
-        let wrapped = Room::of_field(part(line, 2, b' '));
-        let length = KEY + 2 * key_data.size + 1 + 2 * wrapped.size;
-        Trial::new(line, length, key_data, wrapped)
+    // Of a key, key data and the wrapped key that they make: those two.
+    fn both(line: &[u8]) -> Option<(Room, Room)> {
+        let key_data = Room::of_field(field(line, 1))?;
+        let wrapped = Room::of_field(field(line, 2))?;
+        if line.len() != KEY + 2 * key_data.size() + 1 + 2 * wrapped.size() {
+            return None;
+        }
+        Some((key_data, wrapped))
+    }
+
+    pub fn wrapped(line: &[u8]) -> Option<Trial> {
+        let (key_data, wrapped) = Trial::both(line)?;
+        Trial::new(line, key_data, Ok(()), wrapped)
+    }
+
+    pub fn unwrapped(line: &[u8]) -> Option<Trial> {
+        let (key_data, wrapped) = Trial::both(line)?;
+        Trial::new(line, wrapped, Ok(()), key_data)
     }
 
     // A key and a damaged wrapped key: the room for key data, which would be eight bytes less, should stay untouched.
-    pub fn damaged(line: &[u8]) -> Trial {
-        let wrapped = Room::of_field(part(line, 1, b' '));
-        let size = wrapped.size;
-        let key_data = Room::untouched(if size < 8 { 0 } else { size - 8 });
-        Trial::new(line, KEY + 2 * size, key_data, wrapped)
-    }
-
-    // The engine of the next call: the masked one at all offsets, and the plain one last.
-    pub fn engine(self) -> Engine {
-        let left = self.left;
-        if left == 1 {
-            return Engine::Plain;
+    pub fn damaged(line: &[u8]) -> Option<Trial> {
+        let wrapped = Room::of_field(field(line, 1))?;
+        if line.len() != KEY + 2 * wrapped.size() {
+            return None;
         }
-        Engine::Masked((left % 16) as u8)
+        let key_data = Room::untouched(wrapped.size().saturating_sub(8));
+        Trial::new(line, wrapped, Err(Refusal::Integrity), key_data)
     }
 
-    // After a call, by whether its reply was right, what it left in its room, and what it should have left there.
-    pub fn after(self, right_reply: bool, output: [u8; ROOM], expected: Room) -> Trial
-        ensures { result.left ≡ self.left - 1 }
+    // What comes of the call of the plain engine, and of those of the masked one at all offsets. A call is given a schedule and what it
+    // should cross, and room for what that makes.
+    pub fn run<F: Fn(Engine, &[u8], &[u8], &mut [u8]) -> Result<(), Refusal>>(
+        &self,
+        call: F,
+    ) -> (Tally, Tally)
+        requires { F.IsAlwaysCallable call }
     {
-        let left = self.left;
-        if left == 0 {
-            return self;
+        let mut masked = Tally::default();
+        for offset in 0..16 {
+            masked = masked.with(self.right(&call, Engine::Masked(offset)));
         }
-        let bytes = expected.bytes;
-        let right = right_reply & same(&output, &bytes);
-        let mut r = self;
-        r.left = left - 1;
-        if left == 1 {
-            r.plain = self.plain.with(right);
-        } else {
-            r.masked = self.masked.with(right);
-        }
-        r
+        (
+            Tally::default().with(self.right(&call, Engine::Plain)),
+            masked,
+        )
     }
 
-    // Counts what came of the calls of either engine in its row, and answers whether the line could be read.
-    pub fn counted(self, plain: usize, masked: usize, counts: &mut [u64; CELLS]) -> bool {
-        add(counts, plain, self.plain);
-        add(counts, masked, self.masked);
-        self.read
+    fn right<F: Fn(Engine, &[u8], &[u8], &mut [u8]) -> Result<(), Refusal>>(
+        &self,
+        call: &F,
+        engine: Engine,
+    ) -> bool
+        requires { F.IsAlwaysCallable call.now }
+    {
+        let (left, outcome) = Room::of(self.left.size(), |room| {
+            call(engine, &self.schedule, self.given.front(), room)
+        });
+        (outcome == self.outcome) & (left == self.left)
     }
 }

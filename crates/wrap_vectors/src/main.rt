@@ -2,51 +2,38 @@
 // many of each source were run and how many differ.
 #![tactic(auto)]
 
-mod calls;
 mod table;
 
-use calls::tried;
-use lines::counts::{CELLS, report};
-use lines::input::{read, room};
-use lines::source::{Kind, kind_of};
-use lines::text::{part, past};
-use std::io::Print;
-use wrap_lines::trial::Trial;
+use aes::reply::Refusal;
+use lines::counts::Counts;
+use lines::source::Source;
+use table::Row;
+use wrap_lines::trial::{Engine, Trial};
 
 fn main(rt: HostRuntime) {
-    let mut text = room();
-    let n = read(&rt, &mut text);
-    let mut counts = [0u64; CELLS];
-    run(&rt, &text[0..n], &mut counts);
-    table::print(&rt, &counts);
+    lines::program::run(&rt, table::TITLE, &table::ROWS, one_line);
 }
 
-// Runs the first line of a text, and answers whether it could be read.
-fn one_line(text: &[u8], counts: &mut [u64; CELLS]) -> bool {
-    let line = part(text, 0, b'\n');
-    let kind = kind_of(line, counts);
-    match kind {
-        Kind::Header => true,
-        Kind::RfcWrap => tried(
-            Trial::whole(line),
-            table::PLAIN_RFC,
-            table::MASKED_RFC,
-            counts,
-        ),
-        Kind::NistWrap => tried(
-            Trial::whole(line),
-            table::PLAIN_NIST,
-            table::MASKED_NIST,
-            counts,
-        ),
-        _ => false,
-    }
+fn one_line(source: Source, line: &[u8], _below: &[u8], counts: &mut Counts) -> Option<()> {
+    let (plain, masked) = match source {
+        Source::RfcWrap => (Row::PlainRfc, Row::MaskedRfc),
+        Source::NistWrap => (Row::PlainNist, Row::MaskedNist),
+        _ => return None,
+    };
+    let (by_plain, by_masked) = Trial::wrapped(line)?.run(wrapped);
+    counts.add(plain as usize, by_plain);
+    counts.add(masked as usize, by_masked);
+    Some(())
 }
 
-fn run(rt: &impl Print, text: &[u8], counts: &mut [u64; CELLS]) {
-    let mut at = 0;
-    while at < text.len() {
-        report(rt, one_line(&text[at..], counts), counts);
-        at = past(text, at, b'\n');
+fn wrapped(
+    engine: Engine,
+    schedule: &[u8],
+    key_data: &[u8],
+    room: &mut [u8],
+) -> Result<(), Refusal> {
+    match engine {
+        Engine::Plain => wrap::wrap(schedule, key_data, room),
+        Engine::Masked(offset) => wrap::wrap_masked(schedule, key_data, room, offset),
     }
 }

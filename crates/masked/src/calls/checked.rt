@@ -2,13 +2,14 @@
 ghost use Rattle.std.specs.Prelude.{◌≡◌, ◌+◌, ◌*◌, ◌<◌};
 ghost use Rattle.aes.specs.Key.{rounds_of};
 ghost use Rattle.aes.specs.Reply.{refusal};
+ghost use Rattle.aes.specs.Refusal.{reply};
 ghost use Rattle.masked.specs.Calls.{checks, record_checks};
 
 use super::chosen;
-use aes::reply;
+use aes::reply::Refusal;
 
-// The number of the first check that fails, in their order.
-pub(crate) fn refusal(
+// The first check that fails, in their order.
+pub(crate) fn check(
     schedule: &[u8],
     input: &[u8],
     output: &[u8],
@@ -16,30 +17,28 @@ pub(crate) fn refusal(
     offsets: &[u8],
     step: u8,
     form: u8,
-) -> u8
-    ensures { result ≡ refusal (checks schedule.now input.now output.now masks.now offsets.now step form) }
+) -> Result<(), Refusal>
+    ensures { reply result ≡ refusal (checks schedule.now input.now output.now masks.now offsets.now step form) }
 {
-    if aes::rounds_for(schedule.len()) == 0 {
-        return reply::SCHEDULE_LENGTH;
-    }
+    aes::rounds_for(schedule.len()).ok_or(Refusal::ScheduleLength)?;
     if input.len() != 16 {
-        return reply::INPUT_LENGTH;
+        return Err(Refusal::InputLength);
     }
     if output.len() != 16 {
-        return reply::OUTPUT_LENGTH;
+        return Err(Refusal::OutputLength);
     }
     if masks.len() != 16 {
-        return reply::MASKS_LENGTH;
+        return Err(Refusal::MasksLength);
     }
     if offsets.len() != 16 {
-        return reply::OFFSET_PER_BYTE;
+        return Err(Refusal::OffsetPerByte);
     }
-    chosen::offsets_refusal(offsets, step, form)
+    chosen::check(offsets, step, form)
 }
 
 // The same of a record that has so many states for each round, and one more. No output is lent: the input, of which the same length
 // is asked, stands for it.
-pub(crate) fn record_refusal(
+pub(crate) fn check_record(
     schedule: &[u8],
     input: &[u8],
     masks: &[u8],
@@ -47,16 +46,14 @@ pub(crate) fn record_refusal(
     step: u8,
     states: &[u8],
     each: usize,
-) -> u8
+) -> Result<(), Refusal>
     requires { each < 7 }
-    ensures { result ≡ refusal (record_checks (16 * (each * rounds_of schedule.now + 1)) schedule.now input.now masks.now offsets.now step states.now) }
+    ensures { reply result ≡ refusal (record_checks (16 * (each * rounds_of schedule.now + 1)) schedule.now input.now masks.now offsets.now step states.now) }
 {
-    let refusal = refusal(schedule, input, input, masks, offsets, step, 0);
-    if refusal != reply::DONE {
-        return refusal;
+    let n = aes::rounds_for(schedule.len()).ok_or(Refusal::ScheduleLength)?;
+    check(schedule, input, input, masks, offsets, step, 0)?;
+    if states.len() != 16 * (each * n + 1) {
+        return Err(Refusal::RecordLength);
     }
-    if states.len() != 16 * (each * aes::rounds_for(schedule.len()) + 1) {
-        return reply::RECORD_LENGTH;
-    }
-    reply::DONE
+    Ok(())
 }

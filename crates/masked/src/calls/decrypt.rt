@@ -1,9 +1,10 @@
 // Masked decryption of one block.
 ghost use Rattle.std.specs.Prelude.{◌≡◌};
+ghost use Rattle.aes.specs.Refusal.{reply};
 ghost use Rattle.masked.specs.Calls.{decrypt_published_of, decrypt_masked_of, record_masked_decryption_of};
 
-use super::checked::{record_refusal, refusal};
-use aes::reply;
+use super::checked::{check, check_record};
+use aes::reply::Refusal;
 use caller::Caller;
 use lent::given::Start;
 use starts::{decrypted, decryption_recorded, unsealed};
@@ -15,17 +16,14 @@ pub fn decrypt_published(
     output: &mut [u8],
     offsets: &[u8],
     step: u8,
-) -> u8
-    ensures { (result, output.new) ≡ decrypt_published_of schedule.now input.now output.old offsets.now step }
+) -> Result<(), Refusal>
+    ensures { (reply result, output.new) ≡ decrypt_published_of schedule.now input.now output.old offsets.now step }
 {
     // No masks are lent: the input, of which the same length is asked, stands for them.
-    let refusal = refusal(schedule, input, output, input, offsets, step, 0);
-    if refusal != reply::DONE {
-        return refusal;
-    }
+    check(schedule, input, output, input, offsets, step, 0)?;
     let start = Start::lent(Caller {}, offsets);
     unsealed(schedule, input, output, step, start);
-    reply::DONE
+    Ok(())
 }
 
 // The same over sixteen lent masks, whose tables are worked out before the block is read.
@@ -36,16 +34,13 @@ pub fn decrypt_masked(
     masks: &[u8],
     offsets: &[u8],
     step: u8,
-) -> u8
-    ensures { (result, output.new) ≡ decrypt_masked_of schedule.now input.now output.old masks.now offsets.now step }
+) -> Result<(), Refusal>
+    ensures { (reply result, output.new) ≡ decrypt_masked_of schedule.now input.now output.old masks.now offsets.now step }
 {
-    let refusal = refusal(schedule, input, output, masks, offsets, step, 0);
-    if refusal != reply::DONE {
-        return refusal;
-    }
+    check(schedule, input, output, masks, offsets, step, 0)?;
     let start = Start::lent(Caller {}, offsets);
     decrypted(schedule, input, output, masks, step, start);
-    reply::DONE
+    Ok(())
 }
 
 // Writes the states of a masked decryption: the covered block, and six for each round.
@@ -56,14 +51,11 @@ pub fn record_masked_decryption(
     offsets: &[u8],
     step: u8,
     states: &mut [u8],
-) -> u8
-    ensures { (result, states.new) ≡ record_masked_decryption_of schedule.now input.now masks.now offsets.now step states.old }
+) -> Result<(), Refusal>
+    ensures { (reply result, states.new) ≡ record_masked_decryption_of schedule.now input.now masks.now offsets.now step states.old }
 {
-    let refusal = record_refusal(schedule, input, masks, offsets, step, states, 6);
-    if refusal != reply::DONE {
-        return refusal;
-    }
+    check_record(schedule, input, masks, offsets, step, states, 6)?;
     let start = Start::lent(Caller {}, offsets);
     decryption_recorded(schedule, input, states, masks, step, start);
-    reply::DONE
+    Ok(())
 }

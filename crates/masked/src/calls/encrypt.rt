@@ -1,9 +1,10 @@
 // Masked encryption of one block: with the published masks, and with any sixteen masks.
 ghost use Rattle.std.specs.Prelude.{◌≡◌};
+ghost use Rattle.aes.specs.Refusal.{reply};
 ghost use Rattle.masked.specs.Calls.{encrypt_published_of, encrypt_masked_of};
 
-use super::checked::refusal;
-use aes::reply;
+use super::checked::check;
+use aes::reply::Refusal;
 use caller::Caller;
 use lent::given::Start;
 use starts::{encrypted, sealed};
@@ -16,17 +17,14 @@ pub fn encrypt_published(
     offsets: &[u8],
     step: u8,
     form: u8,
-) -> u8
-    ensures { (result, output.new) ≡ encrypt_published_of schedule.now input.now output.old offsets.now step form }
+) -> Result<(), Refusal>
+    ensures { (reply result, output.new) ≡ encrypt_published_of schedule.now input.now output.old offsets.now step form }
 {
     // No masks are lent: the input, of which the same length is asked, stands for them.
-    let refusal = refusal(schedule, input, output, input, offsets, step, form);
-    if refusal != reply::DONE {
-        return refusal;
-    }
+    check(schedule, input, output, input, offsets, step, form)?;
     let start = Start::lent(Caller {}, offsets);
     sealed(schedule, input, output, step, start);
-    reply::DONE
+    Ok(())
 }
 
 // The same over sixteen lent masks, whose tables are worked out before the block is read.
@@ -38,14 +36,11 @@ pub fn encrypt_masked(
     offsets: &[u8],
     step: u8,
     form: u8,
-) -> u8
-    ensures { (result, output.new) ≡ encrypt_masked_of schedule.now input.now output.old masks.now offsets.now step form }
+) -> Result<(), Refusal>
+    ensures { (reply result, output.new) ≡ encrypt_masked_of schedule.now input.now output.old masks.now offsets.now step form }
 {
-    let refusal = refusal(schedule, input, output, masks, offsets, step, form);
-    if refusal != reply::DONE {
-        return refusal;
-    }
+    check(schedule, input, output, masks, offsets, step, form)?;
     let start = Start::lent(Caller {}, offsets);
     encrypted(schedule, input, output, masks, step, start);
-    reply::DONE
+    Ok(())
 }

@@ -3,11 +3,12 @@
 ghost use Rattle.std.specs.Prelude.{true, ◌≡◌, ◌*◌, length};
 ghost use Rattle.aes.specs.Reply.{refusal, scheduled};
 ghost use Rattle.masks.specs.Mask.{in_row};
+ghost use Rattle.aes.specs.Refusal.{reply};
 ghost use Rattle.masked.specs.Calls.{encrypt_blocks_of, blocks_checks};
 ghost use Rattle.starts.specs.Each.{in_turn};
 
 use super::chosen;
-use aes::reply;
+use aes::reply::Refusal;
 use caller::Caller;
 use lent::given::{Masks, Start};
 use masks::places::first_places;
@@ -21,15 +22,12 @@ pub fn encrypt_blocks(
     offsets: &[u8],
     step: u8,
     form: u8,
-) -> u8
-    ensures { (result, output.new) ≡ encrypt_blocks_of schedule.now input.now output.old offsets.now step form }
+) -> Result<(), Refusal>
+    ensures { (reply result, output.new) ≡ encrypt_blocks_of schedule.now input.now output.old offsets.now step form }
 {
-    let refusal = refusal(schedule, input, output, offsets, step, form);
-    if refusal != reply::DONE {
-        return refusal;
-    }
+    check(schedule, input, output, offsets, step, form)?;
     in_turn(schedule, input, output, offsets, step);
-    reply::DONE
+    Ok(())
 }
 
 // One block after the other, to its place in the output.
@@ -41,40 +39,36 @@ fn in_turn(schedule: &[u8], input: &[u8], output: &mut [u8], offsets: &[u8], ste
     let masks = Masks::published(caller, step, Start::one(caller, 0));
     let mut boxes = stores::boxes::boxes();
     masks.stepped(&mut boxes);
-    let places = first_places();
-    let covers = stores::constants::covers();
-    let compensations = stores::constants::compensations();
-    each(
-        schedule,
-        input,
-        output,
-        offsets,
-        masks,
-        &places,
-        &covers,
-        &boxes,
-        &compensations,
-    );
+    let mut places = first_places();
+    let mut covers = stores::constants::covers();
+    let mut compensations = stores::constants::compensations();
+    let t = masks.encryption(&boxes, &mut places, &mut covers, &mut compensations);
+    each(schedule, input, output, offsets, &t);
 }
 
-// The number of the first check that fails, in their order.
-fn refusal(schedule: &[u8], input: &[u8], output: &[u8], offsets: &[u8], step: u8, form: u8) -> u8
-    ensures { result ≡ refusal (blocks_checks schedule.now input.now output.now offsets.now step form) }
+// The first check that fails, in their order.
+fn check(
+    schedule: &[u8],
+    input: &[u8],
+    output: &[u8],
+    offsets: &[u8],
+    step: u8,
+    form: u8,
+) -> Result<(), Refusal>
+    ensures { reply result ≡ refusal (blocks_checks schedule.now input.now output.now offsets.now step form) }
 {
-    if aes::rounds_for(schedule.len()) == 0 {
-        return reply::SCHEDULE_LENGTH;
-    }
+    aes::rounds_for(schedule.len()).ok_or(Refusal::ScheduleLength)?;
     if input.len() % 16 != 0 {
-        return reply::INPUT_LENGTH;
+        return Err(Refusal::InputLength);
     }
     if 4096 < input.len() {
-        return reply::INPUT_LENGTH;
+        return Err(Refusal::InputLength);
     }
     if output.len() != input.len() {
-        return reply::OUTPUT_LENGTH;
+        return Err(Refusal::OutputLength);
     }
     if offsets.len() != input.len() / 16 {
-        return reply::OFFSETS_LENGTH;
+        return Err(Refusal::OffsetsLength);
     }
-    chosen::offsets_refusal(offsets, step, form)
+    chosen::check(offsets, step, form)
 }

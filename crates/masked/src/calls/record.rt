@@ -1,9 +1,10 @@
 // The recorded masked run, with any sixteen masks.
 ghost use Rattle.std.specs.Prelude.{◌≡◌};
+ghost use Rattle.aes.specs.Refusal.{reply};
 ghost use Rattle.masked.specs.Calls.{record_masked_of};
 
-use super::checked::record_refusal;
-use aes::reply;
+use super::checked::check_record;
+use aes::reply::Refusal;
 use caller::Caller;
 use lent::given::Start;
 use starts::recorded;
@@ -16,14 +17,11 @@ pub fn record_masked(
     offsets: &[u8],
     step: u8,
     states: &mut [u8],
-) -> u8
-    ensures { (result, states.new) ≡ record_masked_of schedule.now input.now masks.now offsets.now step states.old }
+) -> Result<(), Refusal>
+    ensures { (reply result, states.new) ≡ record_masked_of schedule.now input.now masks.now offsets.now step states.old }
 {
-    let refusal = record_refusal(schedule, input, masks, offsets, step, states, 5);
-    if refusal != reply::DONE {
-        return refusal;
-    }
+    check_record(schedule, input, masks, offsets, step, states, 5)?;
     let start = Start::lent(Caller {}, offsets);
     recorded(schedule, input, states, masks, step, start);
-    reply::DONE
+    Ok(())
 }

@@ -1,12 +1,9 @@
 -- 00 is refused, and every other byte has its logarithm.
 -- Assumes nothing.
 use borrow.Author.Rules.{rules}
-use borrow.Author.Tests.{eq-eqb, ne_eqb}
+use borrow.Author.Tests.{ne_eqb}
 use Rattle.aes.proofs.Powers.{logarithm-at}
 use Rattle.aes.proofs.field.logarithm.Goals as goal
-
-pub returns-then-b-eq0 : goal.returns-then-b-eq0
-returns-then-b-eq0 c = simp (eq-eqb _ _ c.if-b-eq0.true)
 
 pub returns : goal.returns
 returns c =

@@ -1,10 +1,8 @@
 -- The entry at b - 1 is the logarithm of b.
 -- Assumes nothing.
 use borrow.Author.Rules.{rules}
-use mathlib.Core.Path.{◌∙◌}
 use Rattle.aes.proofs.Powers.{logarithm-at}
 use Rattle.aes.proofs.field.logarithm_in.Goals as goal
 
 pub returns : goal.returns
-returns c =
-    c.wide.ensures ∙ rw c.requires.1 (logarithm-at c.args.b (search rules) (search rules))
+returns c = rw c.requires.1 (logarithm-at c.args.b (search rules) (search rules))

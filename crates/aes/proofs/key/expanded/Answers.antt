@@ -21,37 +21,21 @@ loop-i-init c =
     let nk : ℕ = c.args.nk in
     let k : List ℕ = c.args.key.now in
     let last : word_of c.word_at-before.result ≡ word_at k (nk - 1) = c.word_at-before.ensures ∙ word_held 240 nk (nk - 1) k _ c.start-w.ensures c.requires.2 (search rules) in
-    (c.requires.0, c.requires.1, search rules, search rules, c.requires.2, rw (none nk) c.start-w.ensures, rw (none nk) last)
-
-pub temp-t-requires : goal.temp-t-requires
-temp-t-requires c = (search rules, search rules, search rules, search rules, search rules)
-
-next : (nk i : ℕ) → nk ≤ i → i < 4 * nk + 28 → (nk ≤ i + 1) × (i + 1 ≤ 4 * nk + 28)
-next nk i le lt = (omega arith, omega arith)
-
-below : (nk i : ℕ) → nk ≤ 8 → i < 4 * nk + 28 → i < 60
-below nk i le lt = omega arith
+    (rw (none nk) c.start-w.ensures, rw (none nk) last)
 
 pub loop-i-preserved : goal.loop-i-preserved
 loop-i-preserved c =
     let l = c.loop-i in
-    let a = c.args in
-    let key : List ℕ = a.key.now in
-    let nk : ℕ = a.nk in
-    let temp-is = c.temp-t.ensures ∙ ap (λ (b : List ℕ). temp nk b l.i) l.invariant.6 in
-    let made = word_sum c.word_at.result c.temp-t.result c.word_at.ensures temp-is in
-    let n = next nk l.i l.invariant.2 c.loop-i-test.true in (
-      l.invariant.0,
-      l.invariant.1,
-      n.0,
-      n.1,
-      l.invariant.4,
-      expanded-held nk key l.w _ l.i l.invariant.0 l.invariant.2 l.invariant.4 l.invariant.5 (c.copy.ensures ∙ c.bytes.ensures ∙ made) (below nk l.i l.invariant.1 c.loop-i-test.true),
-      last_word nk key l.w _ l.i l.invariant.0 l.invariant.2 l.invariant.4 l.invariant.5 made,
+    let key : List ℕ = c.args.key.now in
+    let nk : ℕ = c.args.nk in
+    let le : nk ≤ l.i = search rules in
+    let lt : l.i < 60 = omega arith in
+    let temp-is = c.temp-t.ensures ∙ ap (λ (b : List ℕ). temp nk b l.i) l.invariant.1 in
+    let made = c.put_word.ensures ∙ word_sum c.word_at.result c.temp-t.result c.word_at.ensures temp-is in
+    let some = c.requires.0 in (
+      expanded-held nk key l.w _ l.i some le c.requires.2 l.invariant.0 made lt,
+      last_word nk key l.w _ l.i some le c.requires.2 l.invariant.0 (word_sum c.word_at.result c.temp-t.result c.word_at.ensures temp-is),
     )
-
-done : (nk i : ℕ) → i ≤ 4 * nk + 28 → 4 * nk + 28 ≤ i → i - nk ≡ 4 * (nk + 7) - nk
-done nk i le ge = omega arith
 
 words_are : (nk : ℕ) (key : List ℕ) → length key ≡ 4 * nk → words key ≡ nk
 words_are nk key e = omega (arith, e)
@@ -61,4 +45,5 @@ unfolding key_expansion
 returns c =
     let l = c.loop-i in
     let a = c.args in
-    rw (words_are a.nk a.key.now l.invariant.4) (rw (done a.nk l.i l.invariant.3 c.loop-i-test.false) at l.invariant.5)
+    let done : l.i - a.nk ≡ 4 * (a.nk + 7) - a.nk = omega arith in
+    rw (words_are a.nk a.key.now c.requires.2) (rw done at l.invariant.0)

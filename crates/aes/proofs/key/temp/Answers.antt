@@ -10,17 +10,8 @@ use Rattle.aes.proofs.Listed.{table_at}
 use Rattle.aes.proofs.Words.{word_sum}
 use Rattle.aes.specs.Key.{rcon, sub_word, temp}
 use Rattle.aes.specs.Word.{word_of}
-use Rattle.aes.proofs.Schedule.{constant-below, constant_above}
+use Rattle.aes.proofs.Schedule.{constant-below}
 use Rattle.aes.proofs.key.temp.Goals as goal
-
-pub overflow_sub-i : goal.overflow_sub-i
-overflow_sub-i c =
-    constant_above c.args.nk c.args.i c.requires.0 c.requires.1
-
-pub bounds-constants-i : goal.bounds-constants-i
-bounds-constants-i c =
-    let below : c.args.i / c.args.nk < 11 = constant-below c.args.nk c.args.i c.requires.0 c.requires.2 in
-    omega (arith, below)
 
 pub returns-then-i-nk-eq0 : goal.returns-then-i-nk-eq0
 unfolding temp
@@ -29,7 +20,7 @@ returns-then-i-nk-eq0 c =
     let nk : ℕ = c.args.nk in
     let below : i / nk < 11 = constant-below nk i c.requires.0 c.requires.2 in
     let turned = c.sub_word.ensures ∙ ap sub_word c.rot_word.ensures in
-    let added : word_of c.word.result ≡ rcon (i / nk) = rw (← table_at (raise 0x02) 10 (i / nk - 1) (omega (arith, below)), ← c.requires.4) c.word.ensures in
+    let added : word_of c.word.result ≡ rcon (i / nk) = rw (← table_at (raise 0x02) 10 (i / nk - 1) (omega (arith, below)), ← c.requires.3) c.word.ensures in
     rw (eq-eqb (i % nk) 0 (search rules)) (word_sum c.sub_word.result c.word.result turned added)
 
 pub returns-then-nk-lt7 : goal.returns-then-nk-lt7

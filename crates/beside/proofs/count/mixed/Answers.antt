@@ -1,13 +1,13 @@
 -- Each turn fills one more byte, of the masks over a state that are moved by the two steps.
 -- Assumes nothing.
 use mathlib.Core.List.{List}
-use mathlib.Core.Path.{◌≡◌, refl, ap, ◌∙◌}
+use mathlib.Core.Path.{◌≡◌, ap, ◌∙◌}
 use Prim.Native.Nat.{ℕ, ◌+◌, ◌%◌}
 use native.Mathlib.Omega.{arith}
 use borrow.Author.Rules.{rules}
 use Rattle.aes.specs.Byte.{table}
 use Rattle.aes.specs.State.{at, state, shift_rows, mix_columns}
-use Rattle.aes.proofs.Fill.{filled_none, filled_more, filled_all}
+use Rattle.aes.proofs.Fill.{filled_more, filled_all}
 use Rattle.aes.proofs.Listed.{table_same}
 use Rattle.masks.specs.Mask.{one, mask}
 use Rattle.masks.proofs.Stored.{laid_out}
@@ -32,7 +32,3 @@ returns c =
     filled_all l.invariant (search rules)
     ∙ table_same (moved c.twice-twice.result a.byte) (λ l. at (mix_columns (shift_rows (mask M (one 0) l))) a.byte) 16
     (λ l h. ap (λ (s : List ℕ). at (mix_columns (shift_rows s)) a.byte) (ap (λ (t : List ℕ). state (λ k. at t (l % 16 + k))) c.twice-twice.ensures ∙ laid_out M l))
-
-pub loop-n-init : goal.loop-n-init
-loop-n-init c =
-    filled_none refl

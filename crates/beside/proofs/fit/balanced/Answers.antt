@@ -1,43 +1,34 @@
 -- Each turn passes one more triple of bits.
 -- Assumes nothing.
-use mathlib.Core.Path.{◌≡◌, sym, ap, ◌∙◌}
-use mathlib.Core.Bool.{Bool, cond}
-use borrow.Author.Rules.{rules}
+use mathlib.Core.Path.{◌≡◌, sym, ◌∙◌}
 use native.Mathlib.Omega.{arith}
-use lib.Dec.{lit<}
 use Rattle.beside.specs.Fitness.{balanced}
 use Rattle.beside.proofs.Walk.{first, next_x, next_y, next_z, failed}
 use Rattle.beside.proofs.fit.balanced.Goals as goal
 
 pub loop-z-init : goal.loop-z-init
-loop-z-init c = (lit< tt, lit< tt, search rules, first _)
+loop-z-init c = first _
 
 pub returns-then-not-even : goal.returns-then-not-even
 unfolding balanced
 returns-then-not-even c =
-    let fails = failed _ _ _ _ c.loop-z.invariant.0 c.loop-z.invariant.1 (search rules) (sym c.even.ensures ∙ c.if-not-even.true) in
-    sym (ap (λ (b : Bool). cond b 1 0) fails)
+    sym (failed _ _ _ _ c.loop-x-test.true c.loop-y-test.true c.loop-z-test.true (sym c.even.ensures ∙ c.if-not-even.true))
 
-pub loop-z-preserved-then-x-y : goal.loop-z-preserved-then-x-y
-loop-z-preserved-then-x-y c =
-    let inv = c.loop-z.invariant in
-    let holds = sym c.even.ensures ∙ c.if-not-even.false in
-    (search rules, search rules, search rules, next_x inv.3 holds)
+pub loop-x-preserved : goal.loop-x-preserved
+loop-x-preserved c = next_x c.loop-x.invariant (sym c.even.ensures ∙ c.if-not-even.false)
 
-pub loop-z-preserved-then-y-z : goal.loop-z-preserved-then-y-z
-loop-z-preserved-then-y-z c =
-    let inv = c.loop-z.invariant in
-    let holds = sym c.even.ensures ∙ c.if-not-even.false in
-    (search rules, search rules, search rules, next_y inv.3 holds (omega arith))
+pub loop-y-preserved : goal.loop-y-preserved
+loop-y-preserved c =
+    let end : c.loop-x.x ≡ c.loop-y.y = omega (arith, c.loop-x.auto.x-end, c.loop-x-test.false) in
+    next_y c.loop-x.invariant end
 
 pub loop-z-preserved : goal.loop-z-preserved
 loop-z-preserved c =
-    let inv = c.loop-z.invariant in
-    let holds = sym c.even.ensures ∙ c.if-not-even.false in
-    (search rules, search rules, search rules, next_z inv.3 holds (omega arith) (omega arith))
+    let end : c.loop-y.y ≡ c.loop-z.z = omega (arith, c.loop-y.auto.y-end, c.loop-y-test.false) in
+    next_z c.loop-y.invariant end
 
 pub returns : goal.returns
 unfolding balanced
 returns c =
-    let same : c.loop-z.z ≡ 8 = omega arith in
-    sym (ap (λ (b : Bool). cond b 1 0) (rw same at c.loop-z.invariant.3.lower_z))
+    let same : c.loop-z.z ≡ 8 = omega (arith, c.loop-z.auto.z-end, c.loop-z-test.false) in
+    sym (rw same at c.loop-z.invariant.lower_z)

@@ -2,7 +2,7 @@
 -- Assumes nothing.
 use mathlib.Core.Path.{◌≡◌}
 use mathlib.Core.List.{List}
-use Prim.Native.Nat.{ℕ, ◌≤◌, ◌-◌}
+use Prim.Native.Nat.{ℕ}
 use Rattle.aes.specs.State.{at}
 use Rattle.beside.specs.Fitness.{pattern}
 use Rattle.beside.specs.Counts.{counted}
@@ -12,8 +12,5 @@ use Rattle.beside.proofs.fit.counted.Given as goal
 abbrev pub shown : List ℕ → ℕ → ℕ → ℕ → ℕ → ℕ
 shown masks x y z k = pattern x y z (at masks k)
 
-abbrev pub invariant-loop-i : goal.invariant-loop-i
-invariant-loop-i l = (l.i ≤ 16) × (l.counts ≡ counted (shown l.masks l.x l.y l.z) l.i)
-
-abbrev pub decreases-loop-i : goal.decreases-loop-i
-decreases-loop-i l = 16 - l.i
+abbrev pub invariant-loop-m : goal.invariant-loop-m
+invariant-loop-m l = l.counts ≡ counted (shown l.masks l.x l.y l.z) l.m-index

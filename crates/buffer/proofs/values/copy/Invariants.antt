@@ -1,6 +1,5 @@
 -- Each turn copies one more byte.
 -- Assumes nothing.
-use Prim.Native.Nat.{◌-◌}
 use lib.ListN.{length}
 use Rattle.aes.specs.State.{at}
 use Rattle.aes.proofs.Fill.{Filled}
@@ -8,6 +7,3 @@ use Rattle.buffer.proofs.values.copy.Given as goal
 
 abbrev pub invariant-loop-i : goal.invariant-loop-i
 invariant-loop-i l = Filled (at l.from) (length l.from) l.i l.to
-
-abbrev pub decreases-loop-i : goal.decreases-loop-i
-decreases-loop-i l = length l.from - l.i

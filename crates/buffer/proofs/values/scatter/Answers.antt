@@ -17,12 +17,10 @@ pub returns : goal.returns
 returns c =
     let s : List ℕ = c.args.buffer.now in
     let i : ℕ = c.args.i in
-    let b : List ℕ = c.args.b in
-    let hb : Bytes 16 b = array_bytes c.well_formed.0 in
-    let ex : c.copy.new.to ≡ take 8 b = c.copy.ensures in
-    let ey : c.copy-2.new.to ≡ take 8 (drop 8 b) = c.copy-2.ensures in
-    let lx : length (take 8 b) ≡ 8 = length-take-le 8 b (omega (arith, hb.size)) in
-    let ly : take 8 (drop 8 b) ≡ drop 8 b = take_all 8 (drop 8 b) (rw length-drop (omega (arith, hb.size))) in
-    ap (λ (k : ℕ). back (c.copy.new.to ++ drop 8 s) (8 * i) k c.copy-2.new.to) (width i)
-    ∙ put_back i s c.copy.new.to c.copy-2.new.to c.requires.0 c.requires.1 (rw ex lx)
-    ∙ ap₂ (λ (x y : List ℕ). with_values i x y s) ex (ey ∙ ly)
+    let b : Bytes 16 c.args.b = array_bytes c.well_formed.0 in
+    let x : List ℕ = c.copy_from_slice.new.self in
+    let y : List ℕ = c.copy_from_slice-2.new.self in
+    let ex : x ≡ take 8 c.args.b = c.copy_from_slice.ensures.after in
+    let ey : y ≡ drop 8 c.args.b = c.copy_from_slice-2.ensures.after ∙ take_all 8 (drop 8 c.args.b) (rw length-drop (omega (arith, b.size))) in
+    let lx : length x ≡ 8 = rw ex (length-take-le 8 c.args.b (omega (arith, b.size))) in
+    ap (λ (k : ℕ). back (x ++ drop 8 s) (8 * i) k y) (width i) ∙ put_back i s x y c.requires.0 c.requires.1 lx ∙ ap₂ (λ (p q : List ℕ). with_values i p q s) ex ey

@@ -1,7 +1,7 @@
 -- After k turns the first k blocks stand in the output, and the last block of ciphertext is at hand.
 -- Assumes nothing.
 use mathlib.Core.Path.{◌≡◌}
-use Prim.Native.Nat.{◌-◌, ◌*◌, ◌≤◌}
+use Prim.Native.Nat.{◌*◌}
 use Rattle.aes.specs.Held.{Holds}
 use Rattle.masks.specs.Mask.{in_row}
 use Rattle.cbc.proofs.Links.{last, made}
@@ -9,7 +9,4 @@ use Rattle.cbc.proofs.chain.cbc.Given as goal
 
 abbrev pub invariant-loop-k : goal.invariant-loop-k
 invariant-loop-k l =
-    (l.k ≤ l.n) × (l.last ≡ last l.back l.schedule l.initial.last l.input l.k) × Holds (16 * l.n) (in_row (made l.back l.schedule l.initial.last l.input) l.k) l.output
-
-abbrev pub decreases-loop-k : goal.decreases-loop-k
-decreases-loop-k l = l.n - l.k
+    (l.last ≡ last l.back l.schedule l.initial.last l.input l.k) × Holds (16 * l.n) (in_row (made l.back l.schedule l.initial.last l.input) l.k) l.output

@@ -1,20 +1,9 @@
 -- Each turn fills one more byte.
 -- Assumes nothing.
-use mathlib.Core.Path.{refl}
 use borrow.Author.Rules.{rules}
 use Rattle.aes.specs.Key.{round_key}
-use Rattle.aes.proofs.Fill.{filled_none, filled_more, filled_all}
+use Rattle.aes.proofs.Fill.{filled_all}
 use Rattle.lent.proofs.blocks.sixteen.Goals as goal
-
-pub loop-i-init : goal.loop-i-init
-unfolding round_key
-loop-i-init c =
-    filled_none refl
-
-pub loop-i-preserved : goal.loop-i-preserved
-unfolding round_key
-loop-i-preserved c =
-    filled_more c.loop-i.invariant (search rules) refl
 
 pub returns : goal.returns
 unfolding round_key

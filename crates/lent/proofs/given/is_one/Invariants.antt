@@ -3,7 +3,7 @@
 use mathlib.Core.Path.{◌≡◌}
 use mathlib.Core.Bool.{Bool}
 use mathlib.Core.List.{List}
-use Prim.Native.Nat.{ℕ, ◌+◌, ◌-◌, ◌%◌, ◌≤◌}
+use Prim.Native.Nat.{ℕ, ◌+◌, ◌%◌}
 use lib.Dec.{eqb}
 use Rattle.aes.specs.Byte.{below}
 use Rattle.aes.specs.State.{at}
@@ -13,7 +13,4 @@ abbrev pub so : List ℕ → ℕ → ℕ → Bool
 so v o i = eqb (at v i) ((o + i) % 16)
 
 abbrev pub invariant-loop-i : goal.invariant-loop-i
-invariant-loop-i l = (l.i ≤ 16) × (l.r ≡ below l.i (so l.v l.o))
-
-abbrev pub decreases-loop-i : goal.decreases-loop-i
-decreases-loop-i l = 16 - l.i
+invariant-loop-i l = l.r ≡ below l.i (so l.v l.o)

@@ -1,71 +1,44 @@
 -- Each turn fills one pair more, with what f has there.
 -- Assumes nothing.
-use mathlib.Core.Path.{◌≡◌, sym, ◌∙◌}
-use Prim.{⊥}
-use Prim.Native.Nat.{ℕ, ◌+◌, ◌-◌, ◌*◌, ◌≤◌, ◌<◌}
-use native.Mathlib.Nat.{add-zero, zero-mod}
+use mathlib.Core.Path.{◌≡◌, sym, ap, ◌∙◌}
+use Prim.Native.Nat.{ℕ, ◌+◌, ◌*◌, ◌≤◌, ◌<◌}
+use native.Mathlib.Nat.{mul-mod_right, mul-le-mul_left}
 use native.Mathlib.Omega.{arith}
-use borrow.Author.Rules.{rules}
+use Rattle.masks.proofs.Copied.{filled_within}
+use Rattle.masks.proofs.Turned.{holds_filled, filled_holds}
 use Rattle.masks.proofs.boxes.doubled.Goals as goal
 
-pub loop-y-init : goal.loop-y-init
-loop-y-init c = (omega arith, zero-mod (2 * c.args.k), c.requires.0, λ n f h law. rw add-zero h)
+-- a pair lies below what is doubled
+pair : (k n : ℕ) → n < 128 → 2 * k * n + 2 * k ≤ 256 * k
+pair k n lt = let most : 2 * k * (n + 1) ≤ 2 * k * 128 = mul-le-mul_left (2 * k) (omega (arith, lt)) in omega (arith, most)
 
-before-end : {y end : ℕ} → y ≤ end → (y ≡ end → ⊥) → y < end
-before-end le ne = omega (arith, le, ne)
-
--- where the two parts of a pair lie
-in-room : (y k end : ℕ) → y + 2 * k ≤ end → 0 < k → end + end ≤ 4096
-    → (y + k < end + y) × (end + y + k ≤ 4096) × (y < end + y + k) × (end + y + k + k ≤ 4096)
-in-room y k end le pos room = (omega (arith, le, pos, room), omega (arith, le, pos, room), omega (arith, le, pos, room), omega (arith, le, pos, room))
-
-fewer : (y k end : ℕ) → y < end → 0 < k → end - (y + 2 * k) < end - y
-fewer y k end lt pos = omega (arith, lt, pos)
-
-pub overflow_add-y : goal.overflow_add-y
-overflow_add-y c =
-    let l = c.loop-y in
-    let pair = c.requires.4 l.y (before-end l.invariant.0 c.loop-y-test.true) l.invariant.1 in
-    let room : l.y + c.args.k < 4096 = omega (arith, pair.0, c.requires.1, c.requires.3) in
-    search rules
-
-pub moved-requires : goal.moved-requires
-moved-requires c =
-    let l = c.loop-y in
-    let pair = c.requires.4 l.y (before-end l.invariant.0 c.loop-y-test.true) l.invariant.1 in
-    let r = in-room l.y c.args.k c.args.end pair.0 c.requires.1 c.requires.3 in
-    (r.0, rw l.invariant.2 r.1)
-
-pub moved-requires-in-loop-y : goal.moved-requires-in-loop-y
-moved-requires-in-loop-y c =
-    let l = c.loop-y in
-    let pair = c.requires.4 l.y (before-end l.invariant.0 c.loop-y-test.true) l.invariant.1 in
-    let r = in-room l.y c.args.k c.args.end pair.0 c.requires.1 c.requires.3 in
-    (r.2, rw (c.moved.ensures.0, l.invariant.2) r.3)
-
-pub loop-y-smaller : goal.loop-y-smaller
-loop-y-smaller c =
-    let l = c.loop-y in
-    fewer l.y c.args.k c.args.end (before-end l.invariant.0 c.loop-y-test.true) c.requires.1
-
-pair_end : (y k end : ℕ) → end + y + k + k ≡ end + (y + 2 * k)
-pair_end y k end = omega arith
-
-pub loop-y-preserved : goal.loop-y-preserved
-loop-y-preserved c =
-    let l = c.loop-y in
-    let lt : l.y < c.args.end = before-end l.invariant.0 c.loop-y-test.true in
-    let pair = c.requires.4 l.y lt l.invariant.1 in (
-      pair.0,
-      pair.1,
-      c.moved-in-loop-y.ensures.0 ∙ c.moved.ensures.0 ∙ l.invariant.2,
-      λ n f h law.
-          rw (pair_end l.y c.args.k c.args.end) at (c.moved-in-loop-y.ensures.1 n f
-          (c.moved.ensures.1 n f (l.invariant.3 n f h law) (λ i hi. (law l.y i lt l.invariant.1 hi).0))
-          (λ i hi. (law l.y i lt l.invariant.1 hi).1)),
+pub loop-n-preserved : goal.loop-n-preserved
+loop-n-preserved g c =
+    let l = c.loop-n in
+    let k : ℕ = g.row.K in
+    let y : ℕ = 2 * k * l.n in
+    let end : ℕ = 256 * k in
+    let room : y + 2 * k ≤ end = pair k l.n c.loop-n-test.true in
+    let below = λ (i : ℕ) (hi : i < k). let lt : y < end = omega (arith, room, hi) in lt in
+    let next : end + y + k + k ≡ end + 2 * k * (l.n + 1) = omega arith in (
+      c.copy_within-in-loop-n.ensures.len ∙ c.copy_within.ensures.len ∙ l.invariant.0,
+      λ f h law.
+          let pairs = λ (i : ℕ) (hi : i < k). law y i (below i hi) (mul-mod_right (2 * k) l.n) hi in
+          rw next at (filled_within (end + y + k) y (y + k) k
+          (filled_within (end + y) (y + k) (y + 2 * k) k (l.invariant.1 f h law) c.copy_within.ensures.after (omega arith) (omega (arith, room)) (omega (arith, room, c.requires)) (λ i hi. (pairs i hi).0))
+          c.copy_within-in-loop-n.ensures.after (omega arith) (omega (arith, room)) (omega (arith, room, c.requires)) (λ i hi. (pairs i hi).1)),
     )
 
 pub returns : goal.returns
-returns c =
-    let l = c.loop-y in
-    (l.invariant.2 ∙ sym c.requires.0, λ n f h law. rw c.loop-y-test.false at (l.invariant.3 n f h law))
+returns g c =
+    let l = c.loop-n in
+    let k : ℕ = g.row.K in
+    let last : l.n ≡ 128 = omega (arith, l.auto.n-end, c.loop-n-test.false) in
+    let twice : 256 * k + 2 * k * 128 ≡ 512 * k = omega arith in
+    let end : 256 * k + 2 * k * l.n ≡ 512 * k = ap (λ (n : ℕ). 256 * k + 2 * k * n) last ∙ twice in (
+      l.invariant.0 ∙ sym c.told-r,
+      λ n f h law.
+          let size : n ≡ 4096 = omega (arith, h.size, c.told-r) in
+          let first : 256 * k ≤ 4096 = omega (arith, c.requires) in
+          rw (size, ← end) (filled_holds (l.invariant.1 f (holds_filled first (rw size at h)) law)),
+    )

@@ -2,7 +2,7 @@
 -- Assumes nothing.
 use mathlib.Core.List.{List}
 use mathlib.Core.Path.{◌≡◌}
-use Prim.Native.Nat.{ℕ, ◌-◌, ◌%◌, ◌≤◌}
+use Prim.Native.Nat.{ℕ}
 use lib.ListN.{length}
 use Rattle.aes.specs.Byte.{table}
 use Rattle.aes.specs.Held.{Holds}
@@ -13,8 +13,4 @@ abbrev pub box : (ℕ → ℕ) → List ℕ → ℕ → ℕ → List ℕ
 box S M d j = table (masked_box S M d j) 256
 
 abbrev pub invariant-loop-n : goal.invariant-loop-n
-invariant-loop-n l =
-    (l.n ≤ 16) × (l.l.0 ≡ l.n % 16) × (length l.boxes ≡ 4096) × ((S : ℕ → ℕ) → l.lent ≡ table S 256 → Holds 4096 (in_row (box S l.masks l.step) l.n) l.boxes)
-
-abbrev pub decreases-loop-n : goal.decreases-loop-n
-decreases-loop-n l = 16 - l.n
+invariant-loop-n l = (length l.boxes ≡ 4096) × ((S : ℕ → ℕ) → l.lent ≡ table S 256 → Holds 4096 (in_row (box S l.masks l.step) l.n) l.boxes)

@@ -1,38 +1,25 @@
--- Five stores, and the sixteen bytes after them.
+-- Mark and version, and the masks behind them.
 -- Assumes nothing.
-use mathlib.Core.Path.{◌≡◌, sym, ap, ◌∙◌}
-use borrow.Author.Rules.{rules}
-use lib.Dec.{lit≤}
-use lib.ListN.{length}
-use Rattle.aes.specs.State.{at}
+use mathlib.Core.Path.{◌≡◌, refl, ap, ◌∙◌}
+use mathlib.Core.List.{List, [], ◌∷◌, ◌++◌, append-nil}
+use Prim.Native.Nat.{ℕ, ◌-◌}
+use native.Mathlib.Omega.{arith}
+use borrow.Rule.Slice.PartMut.{put_mid}
+use lib.ListN.{length, take, drop, length-drop, drop_of_length-le}
 use Rattle.masks.specs.Sheet.{headed}
-use Rattle.masks.proofs.Headed.{stored, head_stored, head_at, head_size, head_whole}
 use Rattle.masks.proofs.sheet.write_head.Goals as goal
 
-pub row-requires : goal.row-requires
-row-requires c =
-    let size : length (stored c.args.version c.args.part.now) ≡ 21 = (head_stored c.args.version c.args.part.now c.args.masks.now c.requires.1).size in
-    (rw c.requires.0 (lit≤ tt), rw size (lit≤ tt))
+-- two parts that fill a buffer, the first of five bytes
+joined : (a b c d e : ℕ) (part ys : List ℕ) → length ys ≡ length part - 5
+    → take 5 ((a ∷ b ∷ c ∷ d ∷ e ∷ []) ++ drop 5 part) ++ (ys ++ drop (length ((a ∷ b ∷ c ∷ d ∷ e ∷ []) ++ drop 5 part) - 5) (drop 5 part)) ≡ a ∷ b ∷ c ∷ d ∷ e ∷ ys
+joined a b c d e part ys size =
+    let none : drop (length ((a ∷ b ∷ c ∷ d ∷ e ∷ []) ++ drop 5 part) - 5) (drop 5 part) ≡ [] = drop_of_length-le (drop 5 part) (omega (arith, length-drop {A = ℕ})) in
+    rw (none, append-nil) refl
 
 pub returns : goal.returns
+unfolding headed
 returns c =
     let a = c.args in
-    head_whole a.version a.masks.now _ c.requires.0
-    (c.row.ensures.1 21 (at (headed a.version a.masks.now)) (head_stored a.version a.part.now a.masks.now c.requires.1)
-    (λ i h. head_at a.version a.masks.now i))
-
-pub shape_of-part : goal.shape_of-part
-shape_of-part c =
-    ap length (returns c) ∙ head_size c.args.version c.args.masks.now c.requires.0 ∙ sym c.requires.1
-
-pub bounds-part-2 : goal.bounds-part-2
-bounds-part-2 c =
-    search (rules, c.requires.1)
-
-pub bounds-part-3 : goal.bounds-part-3
-bounds-part-3 c =
-    search (rules, c.requires.1) depth 7
-
-pub bounds-part-4 : goal.bounds-part-4
-bounds-part-4 c =
-    search (rules, c.requires.1) depth 8
+    let masks = c.copy_from_slice-2.ensures.after in
+    ap (λ (head : List ℕ). put_mid 5 (length (head ++ drop 5 a.part.now) - 5) (head ++ drop 5 a.part.now) c.copy_from_slice-2.new.self) c.copy_from_slice.ensures.after
+    ∙ joined 0x4d 0x53 0x4b 0 a.version a.part.now c.copy_from_slice-2.new.self (omega (arith, ap length masks, c.requires)) ∙ ap (λ (ms : List ℕ). 0x4d ∷ 0x53 ∷ 0x4b ∷ 0 ∷ a.version ∷ ms) masks

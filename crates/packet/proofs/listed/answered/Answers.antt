@@ -1,33 +1,30 @@
 -- An unlisted packet is copied, a wrong field refused, and the rest goes its way.
 -- Assumes nothing.
-use mathlib.Core.Path.{sym, ap, ◌∙◌}
+use mathlib.Core.Path.{◌≡◌, sym, ap, ◌∙◌}
 use mathlib.Core.List.{List}
 use Prim.Native.Nat.{ℕ}
-use native.Mathlib.Omega.{arith}
+use lib.Dec.{lit<}
+use Rattle.packet.specs.Packet.{pipe_of}
+use Rattle.packet.specs.Way.{is_back, odd_of}
 use Rattle.packet.proofs.Outcome.{pipe_is, unlisted, field_wrong}
 use Rattle.packet.proofs.listed.answered.Goals as goal
 
-pub returns-then-k-gt6 : goal.returns-then-k-gt6
-returns-then-k-gt6 c =
+pub returns-in_default : goal.returns-in_default
+returns-in_default c =
     let a = c.args in
+    let none : 7 ≡ pipe_of a.pipes.bytes.now a.packet.bytes.now = pipe_is a.pipes.bytes.now a.packet.bytes.now (sym c.in_default.ensures) c.pid.ensures in
     ap (λ (o : List ℕ). (0, o)) c.copy.ensures
-    ∙ unlisted a.packet.now a.out.now a.pipes.now a.odd (pipe_is a.pipes.now a.packet.now c.pipe_of-k.ensures c.pid_of.ensures) a.back c.if-k-gt6.true
+    ∙ unlisted a.packet.bytes.now a.out.now a.pipes.bytes.now (odd_of a.way) none (is_back a.way) (lit< tt)
 
 pub returns-then-not-field_right : goal.returns-then-not-field_right
 returns-then-not-field_right c =
     let a = c.args in
-    field_wrong a.packet.now a.out.now a.pipes.now a.odd (pipe_is a.pipes.now a.packet.now c.pipe_of-k.ensures c.pid_of.ensures) (omega (arith, c.if-k-gt6.false)) a.back (sym c.field_right.ensures ∙ c.if-not-field_right.true)
+    field_wrong a.packet.bytes.now a.out.now a.pipes.bytes.now (odd_of a.way) (pipe_is a.pipes.bytes.now a.packet.bytes.now c.in-Some.ensures.1 c.pid.ensures) c.in-Some.ensures.0 (is_back a.way) (sym c.field_right.ensures ∙ c.if-not-field_right.true)
 
-pub descrambled-requires : goal.descrambled-requires
-descrambled-requires c =
-    (c.requires.0, c.requires.1, c.requires.2, omega (arith, c.if-k-gt6.false), pipe_is c.args.pipes.now c.args.packet.now c.pipe_of-k.ensures c.pid_of.ensures, sym c.field_right.ensures ∙ c.if-not-field_right.false)
-
-pub scrambled-requires : goal.scrambled-requires
-scrambled-requires c =
-    (c.requires.0, c.requires.1, c.requires.2, omega (arith, c.if-k-gt6.false), pipe_is c.args.pipes.now c.args.packet.now c.pipe_of-k.ensures c.pid_of.ensures, sym c.field_right.ensures ∙ c.if-not-field_right.false)
-
-pub returns-then-back : goal.returns-then-back
-returns-then-back c = rw c.if-back.true c.descrambled.ensures
-
-pub returns-else-back : goal.returns-else-back
-returns-else-back c = rw c.if-back.false c.scrambled.ensures
+pub invariant_of-listed : goal.invariant_of-listed
+invariant_of-listed c =
+    let a = c.args in record {
+      own = pipe_is a.pipes.bytes.now a.packet.bytes.now c.in-Some.ensures.1 c.pid.ensures;
+      listed = c.in-Some.ensures.0;
+      right = sym c.field_right.ensures ∙ c.if-not-field_right.false;
+    }

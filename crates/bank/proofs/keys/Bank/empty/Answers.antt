@@ -4,4 +4,4 @@ use Rattle.bank.proofs.keys.Bank.empty.Goals as goal
 
 pub returns : goal.returns
 unfolding empty_bank
-returns c = rw c.cleared-s.ensures
+returns c = rw c.cleared.ensures

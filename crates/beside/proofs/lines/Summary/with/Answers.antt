@@ -1,43 +1,38 @@
 -- Each turn looks at one count more.
 -- Assumes nothing.
-use mathlib.Core.Bool.{Bool, cond}
+use mathlib.Core.Bool.{Bool, true, false, cond}
 use mathlib.Core.Path.{◌≡◌, refl, ap, ◌∙◌}
-use Prim.Native.Nat.{ℕ, ◌+◌, ◌≤◌}
+use Prim.Native.Nat.{ℕ, min, max}
 use native.Mathlib.Numerals.{add-one}
-use borrow.Author.Rules.{rules}
-use lib.Dec.{eqb}
+use native.Mathlib.Omega.{arith}
+use mir.Val.{bool_byte}
+use Rattle.std.proofs.lemmas.Bool.Decides.{nat_tests}
 use Rattle.aes.specs.Byte.{below}
 use Rattle.aes.specs.State.{at}
-use Rattle.masks.proofs.Row.{one_more, ended}
 use Rattle.beside.specs.Report.{least, greatest, picked}
-use Rattle.beside.proofs.Even.{one_at_most}
 use Rattle.beside.proofs.lines.Summary.with.Goals as goal
 
-pub loop-t-init : goal.loop-t-init
-unfolding below picked
-loop-t-init c = (search rules, refl, refl, refl)
+least-is : (a b : ℕ) → min a b ≡ least a b
+least-is a b = grind (arith, nat_tests)
 
-pub loop-t-preserved : goal.loop-t-preserved
+greatest-is : (a b : ℕ) → max a b ≡ greatest a b
+greatest-is a b = grind (arith, nat_tests)
+
+byte_is : (b : Bool) → bool_byte b ≡ cond b 1 0
+byte_is true = refl
+byte_is false = refl
+
+pub loop-n-init : goal.loop-n-init
 unfolding below picked
-loop-t-preserved c =
-    let l = c.loop-t in
+loop-n-init c = (refl, refl, refl)
+
+pub loop-n-preserved : goal.loop-n-preserved
+unfolding below picked
+loop-n-preserved c =
+    let l = c.loop-n in
     let a = c.args in
-    let t : ℕ = l.t in (
-      one_more c.loop-t-test.true,
-      rw (add-one, l.invariant.1) refl,
-      rw add-one (c.least-low.ensures ∙ ap (least (at a.c t)) l.invariant.2),
-      rw add-one (c.greatest-high.ensures ∙ ap (greatest (at a.c t)) l.invariant.3),
+    let t : ℕ = l.n-index in (
+      rw (add-one, l.invariant.0) refl,
+      rw add-one (c.min-lowest.ensures ∙ least-is _ _ ∙ ap (least (at a.c t)) l.invariant.1),
+      rw add-one (c.max-highest.ensures ∙ greatest-is _ _ ∙ ap (greatest (at a.c t)) l.invariant.2),
     )
-
-pub returns : goal.returns
-returns c =
-    let l = c.loop-t in
-    let a = c.args in
-    let end : l.t ≡ 8 = ended l.invariant.0 c.loop-t-test.false in
-    let two = c.one.ensures ∙ ap (λ (b : Bool). cond b 1 0) (l.invariant.1 ∙ ap (λ (n : ℕ). below n (λ t. eqb (at a.c t) 2)) end) in
-    (ap (λ (n : ℕ). a.self.even + n) two, l.invariant.2 ∙ ap (λ (n : ℕ). picked least a.c n a.self.lowest) end, l.invariant.3 ∙ ap (λ (n : ℕ). picked greatest a.c n a.self.highest) end)
-
-pub overflow_add-result : goal.overflow_add-result
-overflow_add-result c =
-    let small : c.one.result ≤ 1 = rw c.one.ensures (one_at_most c.loop-t.two) in
-    search (rules, small, c.requires)

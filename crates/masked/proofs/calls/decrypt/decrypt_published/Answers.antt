@@ -1,42 +1,34 @@
 -- The checks, and then the run.
 -- Assumes nothing.
 use mathlib.Core.List.{List, []}
-use mathlib.Core.Path.{◌≡◌, ap, ◌∙◌}
+use mathlib.Core.Path.{◌≡◌, refl, ap, ◌∙◌}
 use Prim.Native.Nat.{ℕ}
-use Rattle.aes.specs.Reply.{Check, refusal}
+use borrow.Author.Rules.{rules}
 use Rattle.aes.specs.Key.{rounds_of}
-use Rattle.aes.proofs.Replies.{telling, refused, passed}
+use Rattle.aes.specs.Refusal.{number, reply}
+use Rattle.aes.specs.Reply.{refusal}
+use Rattle.aes.proofs.Outcomes.{refused_by}
+use Rattle.aes.proofs.Replies.{telling, passed}
 use Rattle.masks.specs.Mask.{published}
 use Rattle.runs.specs.Back.{masked_inv_cipher}
-use Rattle.lent.proofs.Begun.{begun_lent, record_lent}
-use Rattle.masked.specs.Calls.{published_back_checks}
+use Rattle.lent.specs.Started.{record_of}
+use Rattle.lent.proofs.Begun.{record_lent}
+use Rattle.masked.specs.Calls.{checks, published_back_checks}
 use Rattle.masked.proofs.Checked.{published-refusal, sizes}
 use Rattle.masked.proofs.calls.decrypt.decrypt_published.Goals as goal
 
-pub returns-then-refusal-ne-DONE : goal.returns-then-refusal-ne-DONE
-returns-then-refusal-ne-DONE c =
+pub returns-in_err-check : goal.returns-in_err-check
+returns-in_err-check c =
     let a = c.args in
-    let cs : List Check = published_back_checks a.schedule.now a.input.now a.output.now a.offsets.now a.step in
-    refused a.output.now _ [] cs (c.refusal-refusal.ensures ∙ published-refusal a.schedule.now a.input.now a.output.now a.offsets.now a.step 0) c.if-refusal-ne-DONE.true
-
-pub lent-start-requires : goal.lent-start-requires
-lent-start-requires c =
-    let a = c.args in
-    (sizes a.schedule.now a.input.now a.output.now a.input.now a.offsets.now a.step 0 c.refusal-refusal.ensures c.if-refusal-ne-DONE.false).offsets.sixteen
-
-pub unsealed-requires : goal.unsealed-requires
-unsealed-requires c =
-    let a = c.args in
-    let s = sizes a.schedule.now a.input.now a.output.now a.input.now a.offsets.now a.step 0 c.refusal-refusal.ensures c.if-refusal-ne-DONE.false in
-    (s.schedule, s.input, s.output, begun_lent c.lent-start.result a.offsets.now c.lent-start.ensures)
+    let gave : reply c.from_residual.result ≡ number c.in_err-check.field-0.0 = search rules in
+    refused_by a.output.now _ [] (published_back_checks a.schedule.now a.input.now a.output.now a.offsets.now a.step) c.in_err-check.field-0.0 gave (c.in_err-check.ensures ∙ published-refusal a.schedule.now a.input.now a.output.now a.offsets.now a.step 0)
 
 pub returns : goal.returns
 unfolding telling
 returns c =
     let a = c.args in
-    let cs : List Check = published_back_checks a.schedule.now a.input.now a.output.now a.offsets.now a.step in
-    let reply : c.refusal-refusal.result ≡ refusal cs = c.refusal-refusal.ensures ∙ published-refusal a.schedule.now a.input.now a.output.now a.offsets.now a.step 0 in
-    let s = sizes a.schedule.now a.input.now a.output.now a.input.now a.offsets.now a.step 0 c.refusal-refusal.ensures c.if-refusal-ne-DONE.false in
-    let v-is = record_lent c.lent-start.result a.offsets.now c.lent-start.ensures s.offsets in
+    let told : 0 ≡ refusal (checks a.schedule.now a.input.now a.output.now a.input.now a.offsets.now a.step 0) = search rules in
+    let s = sizes a.schedule.now a.input.now a.output.now a.input.now a.offsets.now a.step 0 told refl in
+    let v-is = ap record_of c.lent-start.ensures ∙ record_lent a.offsets.now s.offsets in
     (λ i. (0, (c.unsealed.ensures ∙ ap (λ (v : List ℕ). masked_inv_cipher (rounds_of a.schedule.now) published v a.step a.schedule.now a.input.now) v-is) i))
-    ∙ passed a.output.now _ [] cs tt reply c.if-refusal-ne-DONE.false
+    ∙ passed a.output.now _ [] (published_back_checks a.schedule.now a.input.now a.output.now a.offsets.now a.step) tt (told ∙ published-refusal a.schedule.now a.input.now a.output.now a.offsets.now a.step 0) refl

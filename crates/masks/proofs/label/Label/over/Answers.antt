@@ -1,6 +1,6 @@
 -- In the row of the label.
 -- Assumes nothing.
-use mathlib.Core.Path.{sym, ◌∙◌}
+use mathlib.Core.Path.{sym}
 use Prim.Native.Nat.{◌+◌, ◌*◌, ◌%◌}
 use Rattle.aes.specs.Byte.{table}
 use Rattle.aes.specs.State.{at}
@@ -12,5 +12,4 @@ pub returns : goal.returns
 unfolding round_key table
 returns c =
     let a = c.args in
-    c.wide.ensures
-    ∙ sym (table_at (λ i. at a.places.now (16 * (a.self.0 % 16) + i)) 16 a.p.0 c.requires)
+    sym (table_at (λ i. at a.places.now (16 * (a.self.0 % 16) + i)) 16 a.p.0 c.requires)
