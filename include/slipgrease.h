@@ -295,7 +295,7 @@ uint8_t slipgrease_encrypt_blocks(
  * Encrypts one block under any sixteen masks, fit or not; their boxes are worked out first.
  * Reads schedule, 176, 208 or 240 bytes, input, 16 bytes, masks, 16 bytes, and offsets, 16 bytes. Writes output_out, 16 bytes.
  * Refusals: 2 SCHEDULE_LENGTH, 3 INPUT_LENGTH, 4 OUTPUT_LENGTH, 5 MASKS_LENGTH, 24 OFFSET_PER_BYTE, 6 OFFSET_RANGE, 15 STEP_WRONG, 7 FORM_UNKNOWN.
- * Stack: 9,928 bytes.
+ * Stack: 9,912 bytes.
  */
 uint8_t slipgrease_encrypt_masked(
     const uint8_t *schedule, size_t schedule_len,
@@ -312,7 +312,7 @@ uint8_t slipgrease_encrypt_masked(
  * state 5 and state 6: here too, each pair xored is a round key, 0 and 1.
  * Reads schedule, 176, 208 or 240 bytes, input, 16 bytes, masks, 16 bytes, and offsets, 16 bytes. Writes record_out, 16 bytes a state.
  * Refusals: 2 SCHEDULE_LENGTH, 3 INPUT_LENGTH, 5 MASKS_LENGTH, 24 OFFSET_PER_BYTE, 6 OFFSET_RANGE, 15 STEP_WRONG, 8 RECORD_LENGTH.
- * Stack: 9,992 bytes.
+ * Stack: 9,944 bytes.
  */
 uint8_t slipgrease_record_masked(
     const uint8_t *schedule, size_t schedule_len,
@@ -326,7 +326,7 @@ uint8_t slipgrease_record_masked(
  * Decrypts one block under the published masks, with step 1 by stored boxes; those of another step are worked out first.
  * Reads schedule, 176, 208 or 240 bytes, input, 16 bytes, and offsets, 16 bytes. Writes output_out, 16 bytes.
  * Refusals: 2 SCHEDULE_LENGTH, 3 INPUT_LENGTH, 4 OUTPUT_LENGTH, 24 OFFSET_PER_BYTE, 6 OFFSET_RANGE, 15 STEP_WRONG.
- * Stack: 10,216 bytes, and 6,000 with step 1.
+ * Stack: 10,216 bytes, and 6,032 with step 1.
  */
 uint8_t slipgrease_decrypt_published(
     const uint8_t *schedule, size_t schedule_len,
@@ -339,7 +339,7 @@ uint8_t slipgrease_decrypt_published(
  * Decrypts one block under any sixteen masks, fit or not; their boxes are worked out first.
  * Reads schedule, 176, 208 or 240 bytes, input, 16 bytes, masks, 16 bytes, and offsets, 16 bytes. Writes output_out, 16 bytes.
  * Refusals: 2 SCHEDULE_LENGTH, 3 INPUT_LENGTH, 4 OUTPUT_LENGTH, 5 MASKS_LENGTH, 24 OFFSET_PER_BYTE, 6 OFFSET_RANGE, 15 STEP_WRONG.
- * Stack: 10,184 bytes.
+ * Stack: 10,168 bytes.
  */
 uint8_t slipgrease_decrypt_masked(
     const uint8_t *schedule, size_t schedule_len,
@@ -452,7 +452,7 @@ uint8_t slipgrease_wrap_masked(
  * Unwraps key data by the module's engine, and writes and refuses what slipgrease_unwrap does.
  * Reads schedule, 240 bytes, and wrapped, 8 bytes more than key_data. Writes key_data_out, 16, 24 .. 256 bytes.
  * Refusals: 2 SCHEDULE_LENGTH, 6 OFFSET_RANGE, 16 KEY_DATA_LENGTH, 17 WRAPPED_LENGTH, 18 INTEGRITY.
- * Stack: 6,288 bytes.
+ * Stack: 6,320 bytes.
  */
 uint8_t slipgrease_unwrap_masked(
     const uint8_t *schedule, size_t schedule_len,

@@ -24,18 +24,6 @@ impl Schedule {
     {
         Schedule { bytes: [0; 240] }
     }
-
-    fn of(lent: &[u8]) -> Result<Schedule, Refusal>
-        ensures told { reply result ≡ refusal (is_full_schedule lent.now ∷ []) }
-        ensures same { IfOk result (λ s. s.bytes ≡ lent.now) }
-    {
-        if lent.len() != 240 {
-            return Err(Refusal::ScheduleLength);
-        }
-        let mut bytes = [0; 240];
-        bytes.copy_from_slice(lent);
-        Ok(Schedule { bytes })
-    }
 }
 
 #[repr(C)]
@@ -67,17 +55,14 @@ impl Bank {
     pub fn load(mut self, party: u8, schedule: &[u8]) -> Handed
         ensures { (result.reply, (result.number, result.bank)) ≡ load_of self party schedule.now }
     {
-        match self.place(party, schedule) {
-            Ok(number) => Handed {
-                bank: self,
-                reply: 0,
-                number,
-            },
-            Err(refusal) => Handed {
-                bank: self,
-                reply: refusal as u8,
-                number: 0,
-            },
+        let (reply, number) = match self.place(party, schedule) {
+            Ok(number) => (0, number),
+            Err(refusal) => (refusal as u8, 0),
+        };
+        Handed {
+            bank: self,
+            reply,
+            number,
         }
     }
 
@@ -106,12 +91,14 @@ impl Bank {
         encrypt_one(&self.schedules[at].bytes, input, output, offset)
     }
 
-    // The schedule goes into the first free place, under the number that is answered.
+    // The schedule goes into the first free place, under the number that is answered. It is copied once, where nothing is refused.
     fn place(&mut self, party: u8, schedule: &[u8]) -> Result<u8, Refusal>
         ensures { (reply result, (value result, self.new)) ≡ load_of self.old party schedule.now }
     {
         let party = Party::of(party)?;
-        let schedule = Schedule::of(schedule)?;
+        if schedule.len() != 240 {
+            return Err(Refusal::ScheduleLength);
+        }
         if 11 < party.held(&self.tags) {
             return Err(Refusal::PartyFull);
         }
@@ -120,7 +107,7 @@ impl Bank {
         };
         let number = party.lowest(&self.tags);
         self.tags[at] = party.tag(number);
-        self.schedules[at] = schedule;
+        self.schedules[at].bytes.copy_from_slice(schedule);
         Ok(number)
     }
 

@@ -1,5 +1,4 @@
 pub mod Whole
 pub mod Owned
-pub mod Laid
 pub mod Begun
 pub mod Unique

@@ -14,7 +14,10 @@ use Rattle.lent.proofs.blocks.sixteen.Reads as sixteen
 use Rattle.lent.proofs.given.Block.lent.Reads as block
 use Rattle.lent.proofs.given.Block.under.Reads as under
 use Rattle.lent.proofs.given.Masks.advanced.Reads as advanced
+use Rattle.lent.proofs.given.Masks.answers.Reads as answers
 use Rattle.lent.proofs.given.Masks.boxes.Reads as boxes
+use Rattle.lent.proofs.given.Masks.compensated.Reads as compensated
+use Rattle.lent.proofs.given.Masks.corrected.Reads as corrected
 use Rattle.lent.proofs.given.Masks.decryption.Reads as decryption
 use Rattle.lent.proofs.given.Masks.encryption.Reads as encryption
 use Rattle.lent.proofs.given.Masks.first.Reads as first
@@ -22,13 +25,16 @@ use Rattle.lent.proofs.given.Masks.first_constants.Reads as first-constants
 use Rattle.lent.proofs.given.Masks.first_covers.Reads as first-covers
 use Rattle.lent.proofs.given.Masks.inverse_boxes.Reads as inverse-boxes
 use Rattle.lent.proofs.given.Masks.inverse_stepped.Reads as inverse-stepped
+use Rattle.lent.proofs.given.Masks.laid.Reads as laid
 use Rattle.lent.proofs.given.Masks.lent.Reads as masks
+use Rattle.lent.proofs.given.Masks.mask.Reads as mask
 use Rattle.lent.proofs.given.Masks.published.Reads as published
 use Rattle.lent.proofs.given.Masks.stepped.Reads as stepped
+use Rattle.lent.proofs.given.Start.first.Reads as start-first
 use Rattle.lent.proofs.given.Start.lent.Reads as start-lent
 use Rattle.lent.proofs.given.Start.one.Reads as start-one
-use Rattle.lent.proofs.tables.Laid.answers.Reads as answers
-use Rattle.lent.proofs.tables.Laid.mask.Reads as mask
+use Rattle.lent.proofs.tables.Laid.answers.Reads as laid-answers
+use Rattle.lent.proofs.tables.Laid.mask.Reads as laid-mask
 use Rattle.lent.proofs.tables.Schedule.key.Reads as key
 use Rattle.lent.proofs.tables.Schedule.lent.Reads as schedule-lent
 use Rattle.lent.proofs.tables.Schedule.rounds.Reads as rounds
@@ -45,6 +51,9 @@ start_one_unique κs args exit x y p q = p ∙ sym q
 pub start_lent_unique : Unique start-lent.Post
 start_lent_unique κs args exit x y p q = p ∙ sym q
 
+pub start_first_unique : Unique start-first.Post
+start_first_unique κs args exit x y p q = let e : x.0 ≡ y.0 = p ∙ sym q in λ i. record { 0 = e i }
+
 pub masks_published_unique : Unique published.Post
 masks_published_unique κs args exit x y p q = p ∙ sym q
 
@@ -53,6 +62,18 @@ masks_lent_unique κs args exit x y p q = p ∙ sym q
 
 pub masks_first_unique : Unique first.Post
 masks_first_unique κs args exit x y p q = let e : x.0 ≡ y.0 = p ∙ sym q in λ i. record { 0 = e i }
+
+pub masks_answers_unique : Unique answers.Post
+masks_answers_unique κs args exit x y p q = p ∙ sym q
+
+pub masks_laid_unique : UniqueWriting {Held = List ℕ × List ℕ} laid.Post (λ κs e. (e.1.0.now, e.1.1.0.now))
+masks_laid_unique κs args e f x y p q = (refl, λ i. ((p.0 ∙ sym q.0) i, (p.1 ∙ sym q.1) i))
+
+pub masks_compensated_unique : UniqueWriting compensated.Post (λ κs e. e.1.1.0.now)
+masks_compensated_unique κs args e f x y p q = (refl, p ∙ sym q)
+
+pub masks_corrected_unique : UniqueWriting {Held = List ℕ × List ℕ} corrected.Post (λ κs e. (e.1.1.0.now, e.1.1.1.0.now))
+masks_corrected_unique κs args e f x y p q = (refl, λ i. ((p.0 ∙ sym q.0) i, (p.1 ∙ sym q.1) i))
 
 pub masks_boxes_unique : UniqueWriting boxes.Post (λ κs e. e.1.0.now)
 masks_boxes_unique κs args e f x y p q = (refl, p ∙ sym q)
@@ -75,13 +96,16 @@ masks_inverse_stepped_unique κs args e f x y p q = (refl, p ∙ sym q)
 pub block_under_unique : Unique under.Post
 block_under_unique κs args exit x y p q = p ∙ sym q
 
+pub masks_mask_unique : Unique mask.Post
+masks_mask_unique κs args exit x y p q = p ∙ sym q
+
 pub masks_advanced_unique : Unique advanced.Post
 masks_advanced_unique κs args exit x y p q = let e : x.0 ≡ y.0 = p ∙ sym q in λ i. record { 0 = e i }
 
-pub laid_mask_unique : Unique mask.Post
+pub laid_mask_unique : Unique laid-mask.Post
 laid_mask_unique κs args exit x y p q = p ∙ sym q
 
-pub laid_answers_unique : Unique answers.Post
+pub laid_answers_unique : Unique laid-answers.Post
 laid_answers_unique κs args exit x y p q = p ∙ sym q
 
 pub schedule_rounds_unique : Unique rounds.Post

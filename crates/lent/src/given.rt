@@ -3,7 +3,7 @@
 ghost use Rattle.std.specs.Prelude.{◌≡◌, true, ◌+◌, ◌%◌, ◌<◌, length, None};
 ghost use Rattle.aes.specs.Box.{s_box, inv_s_box};
 ghost use Rattle.masks.specs.Mask.{one, published, ◌⊞◌, mask, covers_of, masked_boxes, compensation, after_rows, after_columns, constants};
-ghost use Rattle.masks.specs.Order.{places_of};
+ghost use Rattle.masks.specs.Order.{boxes_at, boxed_by, places_of};
 ghost use Rattle.masks.specs.Kinds.{constant_of};
 ghost use Rattle.lent.specs.Started.{is_one, start_of, offsets_of};
 
@@ -11,6 +11,7 @@ use crate::blocks::sixteen;
 use crate::tables::{Decryption, Encryption, Laid};
 use aes::add;
 use caller::Caller;
+use masks::answers::answers;
 use masks::constants::Kind;
 use masks::label::{Label, Offsets};
 use masks::{boxes, constants};
@@ -44,10 +45,11 @@ impl Block {
     }
 
     // Under the masks of a label.
-    pub fn under(self, laid: &Laid, l: Label) -> [u8; 16]
-        ensures { result ≡ self.0 ⊞ mask laid.now.masks.bytes (offsets_of laid.now.masks) l.0 }
+    pub fn under(self, masks: Masks, covers: &[u8; 256], l: Label) -> [u8; 16]
+        requires { covers.now ≡ covers_of masks.bytes (offsets_of masks) }
+        ensures { result ≡ self.0 ⊞ mask masks.bytes (offsets_of masks) l.0 }
     {
-        add(self.0, laid.mask(l))
+        add(self.0, masks.mask(covers, l))
     }
 }
 
@@ -76,9 +78,16 @@ impl Start {
             on: 0,
         }
     }
+
+    // The label with which a run begins.
+    pub fn first(self) -> Label
+        ensures { result.0 ≡ self.on % 16 }
+    {
+        Label::make(self.on)
+    }
 }
 
-// Whether the offsets are those of one. No chain of an iterator: a closure is called by no name that tools/steps could follow.
+// Whether the offsets are those of one. All sixteen are compared: `all` of an iterator would end at the first that differs.
 fn is_one(v: [u8; 16]) -> bool
     ensures { result ≡ is_one v }
 {
@@ -116,7 +125,15 @@ impl Masks {
     pub fn first(self) -> Label
         ensures { result.0 ≡ self.start.on % 16 }
     {
-        Label::make(self.start.on)
+        self.start.first()
+    }
+
+    // The masks over a state, so many labels on.
+    pub fn mask(self, covers: &[u8; 256], l: Label) -> [u8; 16]
+        requires { covers.now ≡ covers_of self.bytes (offsets_of self) }
+        ensures { result ≡ mask self.bytes (offsets_of self) l.0 }
+    {
+        sixteen(covers, l.read() % 16)
     }
 
     // The label that is a step on.
@@ -124,6 +141,14 @@ impl Masks {
         ensures { result.0 ≡ (l.0 + self.step) % 16 }
     {
         l.next(self.step)
+    }
+
+    // What boxes answer to a state, each byte by the one over it.
+    pub fn answers(self, s: [u8; 16], boxes: &[u8; 4096], places: &[u16; 256], l: Label) -> [u8; 16]
+        requires { places.now ≡ places_of (offsets_of self) }
+        ensures { result ≡ boxed_by boxes.now (boxes_at (offsets_of self) l.0) s }
+    {
+        answers(s, boxes, places, l)
     }
 
     // The boxes with their step.
@@ -173,7 +198,37 @@ impl Masks {
         constants::made(kind, self.bytes, r);
     }
 
-    // What a run is lent, over boxes and over what is laid out at the offsets of 0, which stays where the offsets are those.
+    // Where the boxes begin and the masks over a state, for each label, over those at the offsets of 0, which stay where the offsets are
+    // those; and so, of these masks, compensations, and both corrections of a decryption.
+    pub fn laid(self, places: &mut [u16; 256], covers: &mut [u8; 256])
+        requires { (places.old ≡ places_of (one 0)) × (covers.old ≡ covers_of self.bytes (one 0)) }
+        ensures { (places.new ≡ places_of (offsets_of self)) × (covers.new ≡ covers_of self.bytes (offsets_of self)) }
+    {
+        if let Some(offsets) = self.start.offsets {
+            offsets.places(places);
+            offsets.covers(self.bytes, covers);
+        }
+    }
+
+    pub fn compensated(self, covers: &[u8; 256], r: &mut [u8; 256])
+        requires { (covers.now ≡ covers_of self.bytes (offsets_of self)) × (r.old ≡ constants compensation self.bytes (one 0)) }
+        ensures { r.new ≡ constants compensation self.bytes (offsets_of self) }
+    {
+        if let Some(_) = self.start.offsets {
+            constants::of_covers(Kind::Compensation, covers, r);
+        }
+    }
+
+    pub fn corrected(self, covers: &[u8; 256], rows: &mut [u8; 256], columns: &mut [u8; 256])
+        requires { (covers.now ≡ covers_of self.bytes (offsets_of self)) × (rows.old ≡ constants after_rows self.bytes (one 0)) × (columns.old ≡ constants after_columns self.bytes (one 0)) }
+        ensures { (rows.new ≡ constants after_rows self.bytes (offsets_of self)) × (columns.new ≡ constants after_columns self.bytes (offsets_of self)) }
+    {
+        if let Some(_) = self.start.offsets {
+            constants::corrections_of(covers, rows, columns);
+        }
+    }
+
+    // What a run is lent, over boxes and over what is laid out at the offsets of 0.
     pub fn encryption<'a>(
         self,
         boxes: &'a [u8; 4096],
@@ -184,11 +239,8 @@ impl Masks {
         requires { (boxes.now ≡ masked_boxes s_box self.bytes self.step) × (places.old ≡ places_of (one 0)) × (covers.old ≡ covers_of self.bytes (one 0)) × (compensations.old ≡ constants compensation self.bytes (one 0)) }
         ensures { result.laid.masks ≡ self }
     {
-        if let Some(offsets) = self.start.offsets {
-            offsets.places(places);
-            offsets.covers(self.bytes, covers);
-            constants::of_covers(Kind::Compensation, covers, compensations);
-        }
+        self.laid(places, covers);
+        self.compensated(covers, compensations);
         Encryption {
             laid: Laid {
                 masks: self,
@@ -211,12 +263,8 @@ impl Masks {
         requires { (boxes.now ≡ masked_boxes inv_s_box self.bytes self.step) × (places.old ≡ places_of (one 0)) × (covers.old ≡ covers_of self.bytes (one 0)) × (rows.old ≡ constants after_rows self.bytes (one 0)) × (columns.old ≡ constants after_columns self.bytes (one 0)) }
         ensures { result.laid.masks ≡ self }
     {
-        if let Some(offsets) = self.start.offsets {
-            offsets.places(places);
-            offsets.covers(self.bytes, covers);
-            constants::of_covers(Kind::AfterRows, covers, rows);
-            constants::of_covers(Kind::AfterColumns, covers, columns);
-        }
+        self.laid(places, covers);
+        self.corrected(covers, rows, columns);
         Decryption {
             laid: Laid {
                 masks: self,

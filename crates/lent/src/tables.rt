@@ -3,7 +3,6 @@
 ghost use Rattle.std.specs.Prelude.{◌≡◌, true, ◌+◌, ◌*◌, ◌<◌, ◌≤◌, length};
 ghost use Rattle.aes.specs.Box.{s_box, inv_s_box};
 ghost use Rattle.aes.specs.Key.{round_key, rounds_of};
-ghost use Rattle.aes.specs.Reply.{scheduled};
 ghost use Rattle.aes.specs.State.{Bytes};
 ghost use Rattle.masks.specs.Mask.{mask, covers_of, masked_boxes, compensation, after_rows, after_columns, constants};
 ghost use Rattle.masks.specs.Order.{boxes_at, boxed_by, places_of};
@@ -11,9 +10,7 @@ ghost use Rattle.lent.specs.Started.{offsets_of};
 
 use crate::blocks::sixteen;
 use crate::given::Masks;
-use aes::rounds_for;
 use caller::Caller;
-use masks::answers::answers;
 use masks::label::Label;
 
 // A schedule, with the rounds that it is for.
@@ -60,13 +57,14 @@ pub struct Decryption<'a> {
 }
 
 impl Schedule<'_> {
+    // Of any rounds from 1 to 14, which its length tells.
     pub fn lent(_caller: Caller, schedule: &[u8]) -> Schedule<'_>
-        requires { scheduled (length schedule.now) ≡ true }
+        requires { (0 < rounds_of schedule.now) × (rounds_of schedule.now < 15) × (length schedule.now ≡ 16 * rounds_of schedule.now + 16) }
         ensures { (result.bytes.now ≡ schedule.now) × (result.rounds ≡ rounds_of schedule.now) }
     {
         Schedule {
             bytes: schedule,
-            rounds: rounds_for(schedule.len()).unwrap(),
+            rounds: schedule.len() / 16 - 1,
         }
     }
 
@@ -90,14 +88,13 @@ impl Laid<'_> {
     pub fn mask(&self, l: Label) -> [u8; 16]
         ensures { result ≡ mask self.now.masks.bytes (offsets_of self.now.masks) l.0 }
     {
-        let covers = self.covers;
-        sixteen(covers, l.read() % 16)
+        self.masks.mask(self.covers, l)
     }
 
     // What boxes answer to a state, each byte by the one over it.
     pub fn answers(&self, s: [u8; 16], boxes: &[u8; 4096], l: Label) -> [u8; 16]
         ensures { result ≡ boxed_by boxes.now (boxes_at (offsets_of self.now.masks) l.0) s }
     {
-        answers(s, boxes, self.places, l)
+        self.masks.answers(s, boxes, self.places, l)
     }
 }

@@ -83,7 +83,7 @@ fn place(name: &[u8], way: Way) -> Option<usize> {
     }
 }
 
-// The state of number n in a row of them, where it goes so far.
-pub fn state_at(states: &[u8], n: usize) -> Option<[u8; 16]> {
-    states.as_chunks().0.get(n).copied()
+// The state of number n in a row of them; zeros, which the example has nowhere, where it does not go so far.
+pub fn state_at(states: &[u8], n: usize) -> [u8; 16] {
+    states.as_chunks().0.get(n).copied().unwrap_or([0; 16])
 }

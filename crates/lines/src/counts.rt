@@ -1,4 +1,7 @@
 // What was run, what differed and what could not be read, up to the line that a program has come to, and the table of it.
+use crate::page::Page;
+use std::fmt;
+use std::fmt::Write;
 use std::io::Print;
 
 // How many vectors were run, and how many differed. The input is too short for a count to wrap.
@@ -64,27 +67,38 @@ impl Counts {
         if read.is_none() {
             self.unread = self.unread.wrapping_add(1);
             let line = self.lines;
-            let _ = print!(rt; "line {line:>6} could not be read\n");
+            let mut page = Page::empty();
+            let _ = write!(page, "line {line:>6} could not be read\n");
+            let _ = rt.write_some(page.text());
         }
     }
 
-    // Prints the table: a header, the rows by their names and one for all, with columns that end at byte 49 and 58, and a last line for
-    // what could not be read.
+    // Prints the table, in one write: a header, the rows by their names and one for all, with columns that end at byte 49 and 58, and a
+    // last line for what could not be read.
     pub fn print(&self, rt: &impl Print, title: &str, names: &[&str]) {
-        let _ = print!(rt; "{title:<41}      run   differ\n");
+        let mut page = Page::empty();
+        let _ = self.lay(&mut page, title, names);
+        let _ = rt.write_some(page.text());
+    }
+
+    fn lay(&self, page: &mut Page, title: &str, names: &[&str]) -> fmt::Result {
+        write!(page, "{title:<41}      run   differ\n")?;
         let mut all = Tally::default();
         for (name, tally) in names.iter().zip(self.rows.iter()) {
-            print_row(rt, name, *tally);
+            lay_row(page, name, *tally)?;
             all = all.plus(*tally);
         }
-        print_row(rt, "all", all);
+        lay_row(page, "all", all)?;
         let unread = self.unread;
-        let _ = print!(rt; "lines that could not be read             {unread:>9}\n");
+        write!(
+            page,
+            "lines that could not be read             {unread:>9}\n"
+        )
     }
 }
 
-fn print_row(rt: &impl Print, name: &str, tally: Tally) {
+fn lay_row(page: &mut Page, name: &str, tally: Tally) -> fmt::Result {
     let run = tally.run;
     let differ = tally.differ;
-    let _ = print!(rt; "  {name:<39}{run:>9}{differ:>9}\n");
+    write!(page, "  {name:<39}{run:>9}{differ:>9}\n")
 }

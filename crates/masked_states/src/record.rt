@@ -40,9 +40,8 @@ fn recorded(way: Way, place: usize, trial: &Trial, block: &[u8; 16], labels: Lab
                 record_masked_decryption(schedule, block, &masks, &offsets, step, record)
             }
         }?;
-        if let Some(state) = state_at(record, place) {
-            *output = aes::add(state, over_state(way, masks, labels, place));
-        }
+        let mask = over_state(way, masks, labels, place);
+        *output = aes::add(state_at(record, place), mask);
         Ok(())
     })
 }

@@ -7,8 +7,10 @@ use mathlib.Core.List.{List}
 use Prim.Native.Nat.{ℕ, ◌+◌, ◌%◌, ◌≤◌, ◌<◌}
 use native.Mathlib.Nat.{add-zero}
 use native.Mathlib.Omega.{arith}
+use native.Mathlib.Decide.{ℕ_discrete}
 use lib.Dec.{T, eqb, leb, ltb, lit<, lit≤}
-use lib.ListN.{length}
+use lib.ListN.{length, set, length-set}
+use lib.Seq.{get_or-set_same, get_or-set_other}
 use mir.Facts.{and_yes, eqb_no}
 use Rattle.aes.specs.Byte.{table, place, below}
 use Rattle.aes.specs.State.{at, state}
@@ -42,6 +44,22 @@ order_once k h = place_only (at box_order) (λ p. p) 16 permuted k h
 pub record Called (f : ℕ → ℕ) (k : ℕ) (r : List ℕ) : Type 0 where
   pub room : length r ≡ 16
   pub so_far : (j : ℕ) → j < k → at r (at box_order j) ≡ f (at box_order j)
+
+pub called_more : {f : ℕ → ℕ} {k : ℕ} {r : List ℕ} → Called f k r → k < 16 → (i v : ℕ) → i ≡ at box_order k → v ≡ f i → Called f (k + 1) (set r i v)
+called_more {f} {k} {r} c h i v ei ev = record { room = length-set r i v ∙ c.room; so_far = at_j }
+  where
+    lt : i < 16
+    lt = rw ei (order_below k h)
+
+    before : (j : ℕ) → j < k + 1 → (at box_order j ≡ i → ⊥) → j < k
+    before j hj e = elim (ℕ_discrete j k) [ yes q ↦ absurd (e (rw q (sym ei))) | no q ↦ omega arith ]
+
+    at_j : (j : ℕ) → j < k + 1 → at (set r i v) (at box_order j) ≡ f (at box_order j)
+    at_j j hj =
+        elim (ℕ_discrete (at box_order j) i) [
+          | yes e ↦ rw e (get_or-set_same r i v 0 (rw c.room lt) ∙ ev)
+          | no e ↦ get_or-set_other r i (at box_order j) v 0 e ∙ c.so_far j (before j hj e)
+        ]
 
 pub called_all : {f : ℕ → ℕ} {k : ℕ} {r : List ℕ} → Called f k r → 16 ≤ k → r ≡ state f
 called_all {f} {k} {r} c h = filled_all (record { room = c.room; within = lit≤ tt; so_far = at_i }) (lit≤ tt)

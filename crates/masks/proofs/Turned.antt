@@ -2,7 +2,7 @@
 -- Assumes nothing.
 use mathlib.Core.Path.{◌≡◌, refl, sym, ap, ap₂, ◌∙◌}
 use mathlib.Core.List.{List}
-use Prim.Native.Nat.{ℕ, ◌+◌, ◌-◌, ◌*◌, ◌/◌, ◌%◌, ◌≤◌, ◌<◌}
+use Prim.Native.Nat.{ℕ, ◌+◌, ◌*◌, ◌/◌, ◌%◌, ◌≤◌, ◌<◌}
 use native.Mathlib.Omega.{arith}
 use lib.Dec.{lit<}
 use lib.ListN.{length, take}
@@ -103,88 +103,56 @@ first_table f x lt =
     let high : x / 256 ≡ 0 = omega (arith, lt) in
     ap f (sym (ap₂ (◌⊕◌) low high ∙ xor_zero x))
 
--- the second has its neighbours exchanged
-pub second_table : (f : ℕ → ℕ) (x : ℕ) → x < 256 → f (x ⊕ 1) ≡ turned_table f (256 + x)
-unfolding turned_table
-second_table f x lt =
-    let low : (256 + x) % 256 ≡ x = omega (arith, lt) in
-    let high : (256 + x) / 256 ≡ 1 = omega (arith, lt) in
-    ap f (sym (ap₂ (◌⊕◌) low high))
-
--- where an entry is taken from, and the one k away in its pair
+-- where an entry is taken from
 abbrev index : ℕ → ℕ
 index q = (q % 256) ⊕ (q / 256)
 
-abbrev partner : ℕ → ℕ → ℕ
-partner k q = q + k - 2 * k * (q % (2 * k) / k)
-
--- Pairs of k bytes: from `end` on the tables have what they have before it, exchanged. k is a power of two below sixteen, which
--- small tests tell: below k sums with k carry nothing, and below sixteen a sum with k is the partner.
+-- k is a power of two below sixteen, so that below k sums with k carry nothing, which a small test tells
 abbrev pub Doubling : ℕ → ℕ → Type 0
 Doubling k end = (f : ℕ → ℕ) → Exchanged k end (turned_table f)
 
-regroup : (q k d : ℕ) → d ≤ q % 16 + k → q + k - d ≡ 16 * (q / 16) + (q % 16 + k - d)
-regroup q k d le = omega (arith, le)
-
-module _ (k end : ℕ) (small : k < 16) (whole : end ≡ 256 * k) (sums : table (λ j. k + j) k ≡ table (λ j. k ⊕ j) k)
-    (lows : table (λ i. i ⊕ k) 16 ≡ table (partner k) 16) (same : (q : ℕ) → q % 16 % (2 * k) ≡ q % (2 * k))
-    (bound : (q : ℕ) → 2 * k * (q % (2 * k) / k) ≤ q % 16 + k) (fill : (y : ℕ) → y < end → y % (2 * k) ≡ 0 → y + 2 * k ≤ end)
-    (away : (y i : ℕ) → y % (2 * k) ≡ 0 → i < k → (partner k (y + i) ≡ y + k + i) × (partner k (y + k + i) ≡ y + i)) where
-  low_digit : k % 16 ≡ k
-  low_digit = omega (arith, small)
-
-  no_high : k / 16 ≡ 0
-  no_high = omega (arith, small)
-
+module _ (k : ℕ) (small : k < 16) (sums : table (λ j. k + j) k ≡ table (λ j. k ⊕ j) k) where
   in_byte : k % 256 ≡ k
   in_byte = omega (arith, small)
 
   no_byte : k / 256 ≡ 0
   no_byte = omega (arith, small)
 
-  split : (q : ℕ) → partner k q ≡ 16 * (q / 16) + partner k (q % 16)
-  split q =
-      regroup q k (2 * k * (q % (2 * k) / k)) (bound q)
-      ∙ ap (λ (x : ℕ). 16 * (q / 16) + (q % 16 + k - 2 * k * (x / k))) (sym (same q))
-
-  -- the partner is the sum with k
-  partnered : (q : ℕ) → q ⊕ k ≡ partner k q
-  partnered q =
-      let z : ℕ = (q % 16) ⊕ k in
-      let hz : z < 16 = xor_lt 4 (q % 16) k (omega arith) small in
-      by_nibbles (q ⊕ k) (16 * (q / 16) + z)
-      (high_xor q k ∙ ap (λ (x : ℕ). (q / 16) ⊕ x) no_high ∙ xor_zero (q / 16) ∙ sym (high_of (q / 16) z hz))
-      (low_xor q k ∙ ap (λ (x : ℕ). (q % 16) ⊕ x) low_digit ∙ sym (low_of (q / 16) z hz))
-      ∙ ap (λ (x : ℕ). 16 * (q / 16) + x) (agree (λ i. i ⊕ k) (partner k) 16 lows (q % 16) (omega arith)) ∙ sym (split q)
-
-  beyond : (q q' r : ℕ) → q < end → partner k q ≡ q' → end + q ≡ r → index q' ≡ index r
-  beyond q q' r lt e s =
-      let x : ℕ = q % 256 in
-      let j : ℕ = q / 256 in
-      let hj : j < k = omega (arith, lt, whole) in
-      let low : (end + q) % 256 ≡ x = omega (arith, whole) in
-      let high : (end + q) / 256 ≡ k + j = omega (arith, whole) in
-      ap index (sym (partnered q ∙ e))
-      ∙ ap₂ (◌⊕◌) (xor_mod q k 8 ∙ ap (λ (y : ℕ). x ⊕ y) in_byte) (xor_shr q k 8 ∙ ap (λ (y : ℕ). j ⊕ y) no_byte ∙ xor_zero j)
-      ∙ xor_assoc x k j
-      ∙ sym (ap index (sym s) ∙ ap₂ (◌⊕◌) low (high ∙ agree (λ i. k + i) (λ i. k ⊕ i) k sums j hj))
-
-  doubling : Doubling k end
+  doubling : Doubling k (256 * k)
   unfolding turned_table
-  doubling f y i lt m hi =
-      let room = fill y lt m in (
-        ap f (beyond (y + i) (y + k + i) (end + y + i) (omega (arith, room, hi)) (away y i m hi).0 (omega arith)),
-        ap f (beyond (y + k + i) (y + i) (end + y + k + i) (omega (arith, room, hi)) (away y i m hi).1 (omega arith)),
-      )
+  doubling f y lt =
+      let x : ℕ = y % 256 in
+      let j : ℕ = y / 256 in
+      let hj : j < k = omega (arith, lt) in
+      let low : (256 * k + y) % 256 ≡ x = omega arith in
+      let high : (256 * k + y) / 256 ≡ k + j = omega arith in
+      ap f
+      (ap₂ (◌⊕◌) (xor_mod y k 8 ∙ ap (λ (z : ℕ). x ⊕ z) in_byte) (xor_shr y k 8 ∙ ap (λ (z : ℕ). j ⊕ z) no_byte ∙ xor_zero j) ∙ xor_assoc x k j
+      ∙ sym (ap₂ (◌⊕◌) low (high ∙ agree (λ i. k + i) (λ i. k ⊕ i) k sums j hj)))
+
+pub by_one : Doubling 1 256
+unfolding table
+by_one = doubling 1 (lit< tt) refl
 
 pub by_two : Doubling 2 512
 unfolding table
-by_two = doubling 2 512 (lit< tt) refl refl refl (λ q. omega arith) (λ q. omega arith) (λ y lt m. omega (arith, lt, m)) (λ y i m hi. (omega (arith, m, hi), omega (arith, m, hi)))
+by_two = doubling 2 (lit< tt) refl
 
 pub by_four : Doubling 4 1024
 unfolding table
-by_four = doubling 4 1024 (lit< tt) refl refl refl (λ q. omega arith) (λ q. omega arith) (λ y lt m. omega (arith, lt, m)) (λ y i m hi. (omega (arith, m, hi), omega (arith, m, hi)))
+by_four = doubling 4 (lit< tt) refl
 
 pub by_eight : Doubling 8 2048
 unfolding table
-by_eight = doubling 8 2048 (lit< tt) refl refl refl (λ q. omega arith) (λ q. omega arith) (λ y lt m. omega (arith, lt, m)) (λ y i m hi. (omega (arith, m, hi), omega (arith, m, hi)))
+by_eight = doubling 8 (lit< tt) refl
+
+-- within a row of sixteen the exchange is the same in every row
+pub in_row_of : (k n i : ℕ) → k < 16 → i < 16 → (16 * n + i) ⊕ k ≡ 16 * n + (i ⊕ k)
+in_row_of k n i hk hi =
+    let z : ℕ = i ⊕ k in
+    let hz : z < 16 = xor_lt 4 i k hi hk in
+    let none : k / 16 ≡ 0 = omega (arith, hk) in
+    let digit : k % 16 ≡ k = omega (arith, hk) in
+    by_nibbles ((16 * n + i) ⊕ k) (16 * n + z)
+    (high_xor (16 * n + i) k ∙ ap₂ (◌⊕◌) (high_of n i hi) none ∙ xor_zero n ∙ sym (high_of n z hz))
+    (low_xor (16 * n + i) k ∙ ap₂ (◌⊕◌) (low_of n i hi) digit ∙ sym (low_of n z hz))

@@ -13,6 +13,7 @@ use Rattle.masks.proofs.boxes.made_inverse.Reads as made-inverse
 use Rattle.masks.proofs.constants.first_covers.Reads as first-covers
 use Rattle.masks.proofs.constants.made.Reads as constants-made
 use Rattle.masks.proofs.constants.mask.Reads as mask
+use Rattle.masks.proofs.constants.corrections_of.Reads as corrections-of
 use Rattle.masks.proofs.constants.of_covers.Reads as of-covers
 use Rattle.masks.proofs.constants.published.Reads as published
 use Rattle.masks.proofs.constants.twice.Reads as twice
@@ -75,6 +76,9 @@ offsets_covers_unique κs args e f x y p q = (refl, p ∙ sym q)
 
 pub of_covers_unique : UniqueWriting of-covers.Post (λ κs e. e.1.1.0.now)
 of_covers_unique κs args e f x y p q = (refl, p ∙ sym q)
+
+pub corrections_of_unique : UniqueWriting {Held = List ℕ × List ℕ} corrections-of.Post (λ κs e. (e.1.0.now, e.1.1.0.now))
+corrections_of_unique κs args e f x y p q = (refl, λ i. ((p.0 ∙ sym q.0) i, (p.1 ∙ sym q.1) i))
 
 pub constants_made_unique : UniqueWriting constants-made.Post (λ κs e. e.1.1.0.now)
 constants_made_unique κs args e f x y p q = (refl, p ∙ sym q)

@@ -1,6 +1,6 @@
 -- What a buffer holds that is filled part by part. What inner contracts cite.
 -- Assumes nothing.
-use Rattle.std.specs.Prelude.{List, ◌≡◌, ℕ, ◌+◌, ◌*◌, ◌/◌, ◌%◌, ◌<◌, length}
+use Rattle.std.specs.Prelude.{List, ◌≡◌, ℕ, ◌+◌, ◌/◌, ◌%◌, ◌<◌, length}
 use Rattle.aes.specs.Byte.{◌⊕◌, table}
 use Rattle.aes.specs.Held.{Holds}
 
@@ -13,6 +13,6 @@ Further xs ys a b told =
 unfoldable pub turned_table : (ℕ → ℕ) → ℕ → ℕ
 turned_table f q = f ((q % 256) ⊕ (q / 256))
 
--- From `end` on f has pairs of k bytes once more, the two of each pair exchanged.
+-- From `end` on f has once more what it has before it, exchanged: at y what stands at y xor k.
 abbrev pub Exchanged : ℕ → ℕ → (ℕ → ℕ) → Type 0
-Exchanged k end f = (y i : ℕ) → y < end → y % (2 * k) ≡ 0 → i < k → (f (y + k + i) ≡ f (end + y + i)) × (f (y + i) ≡ f (end + y + k + i))
+Exchanged k end f = (y : ℕ) → y < end → f (y ⊕ k) ≡ f (end + y)

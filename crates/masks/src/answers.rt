@@ -4,7 +4,7 @@ ghost use Rattle.aes.specs.State.{at};
 ghost use Rattle.masks.specs.Order.{boxed_by, places_at};
 
 use crate::label::Label;
-use crate::order::{Turns, positions};
+use crate::order::{Turn, positions};
 
 // Byte i by the box over it, where the boxes of this label begin, in the order of the list.
 pub fn answers(s: [u8; 16], boxes: &[u8; 4096], places: &[u16; 256], l: Label) -> [u8; 16]
@@ -13,8 +13,9 @@ pub fn answers(s: [u8; 16], boxes: &[u8; 4096], places: &[u16; 256], l: Label) -
 {
     let order = positions();
     let mut t = [0u8; 16];
-    for turn in Turns::all(&order) {
-        turn.call(&mut t, &s, boxes, places, l);
+    let mut turn = Some(Turn::first(&order));
+    while let Some(next) = turn {
+        turn = next.call(&mut t, &s, boxes, places, l);
     }
     t
 }

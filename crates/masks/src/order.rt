@@ -1,7 +1,6 @@
 // The order in which the boxes of a round are called, document 002's: even positions first. So, with the published masks, what a box
 // gives and what the next one takes never lie under one mask.
-ghost use Rattle.std.specs.Prelude.{◌≡◌, ℕ, ◌+◌, ◌-◌, ◌≤◌, ◌<◌, MatchOption};
-ghost use Rattle.std.specs.Iterator.{at_most};
+ghost use Rattle.std.specs.Prelude.{◌≡◌, ℕ, ◌+◌, ◌≤◌, ◌<◌, MatchOption};
 ghost use Rattle.aes.specs.State.{at};
 ghost use Rattle.masks.specs.Order.{boxed_by, box_order, called, places_at};
 
@@ -16,49 +15,25 @@ pub(crate) fn positions() -> [u8; 16]
     ORDER
 }
 
-// The turns of a round's boxes, by how many were taken. Only taking one counts on, so that no box comes before its turn.
-#[derive(Drop)]
-pub(crate) struct Turns<'a> {
+// A box's turn: how many boxes of the round were called before it. It is neither copied nor let go, and its call alone makes the turn
+// that follows, so that whoever begins a round calls each box once, in the order of the list.
+pub(crate) struct Turn<'a> {
     order: &'a [u8; 16],
-    taken: usize,
+    called: usize,
     ghost as_listed: { order.now ≡ box_order },
+    ghost in_list: { called < 16 },
 }
 
-// A box's turn: the position that it is called at. It can be neither copied nor dropped, so each box is called once.
-pub(crate) struct Turn {
-    position: Position,
-    ghost in_state: { position.0 < 16 },
-}
-
-impl<'a> Turns<'a> {
-    pub(crate) fn all(order: &'a [u8; 16]) -> Turns<'a>
+impl<'a> Turn<'a> {
+    pub(crate) fn first(order: &'a [u8; 16]) -> Turn<'a>
         requires { order.now ≡ box_order }
-        ensures { result.taken ≡ 0 }
+        ensures { result.called ≡ 0 }
     {
-        Turns { order, taken: 0 }
+        Turn { order, called: 0 }
     }
-}
 
-impl<'a> Iterator for Turns<'a> {
-    type Item = Turn;
-
-    ghost next_gives = { λ s r t. MatchOption r (16 ≤ s.taken) (λ turn. (s.taken < 16) × (turn.position.0 ≡ at box_order s.taken) × (t.taken ≡ s.taken + 1)) };
-
-    ghost remaining = { λ s. at_most (16 - s.taken) };
-
-    fn next(&mut self) -> Option<Turn> {
-        let k = self.taken;
-        if k >= 16 {
-            return None;
-        }
-        self.taken = k + 1;
-        let position = Position::listed(self.order[k]);
-        Some(Turn { position })
-    }
-}
-
-impl Turn {
-    // Has the byte of s at this position answered by the box over it: at turn k that of entry k of the list.
+    // Has the byte of s at the next position of the list answered by the box over it, and gives the turn that follows; behind the
+    // last box there is none.
     pub(crate) fn call(
         self,
         t: &mut [u8; 16],
@@ -66,13 +41,36 @@ impl Turn {
         boxes: &[u8; 4096],
         places: &[u16; 256],
         l: Label,
-    )
+    ) -> Option<Turn<'a>>
         requires { (i : ℕ) → i < 16 → at (places_at places.now l.0) i ≤ 3840 }
-        ensures { (k : ℕ) → self.position.0 ≡ at box_order k → t.new ≡ called (boxed_by boxes.now (places_at places.now l.0) s.now) k t.old }
+        ensures answered { t.new ≡ called (boxed_by boxes.now (places_at places.now l.0) s.now) self.entry.called t.old }
+        ensures followed { MatchOption result (self.entry.called ≡ 15) (λ next. next.called ≡ self.entry.called + 1) }
     {
-        let Turn { position } = self;
-        let i = position.read();
-        t[i] = entry(boxes, l.over(places, position), s[i]);
+        let p = self.position();
+        let i = p.read();
+        t[i] = entry(boxes, l.over(places, p), s[i]);
+        self.next()
+    }
+
+    // The position whose turn it is.
+    fn position(&self) -> Position
+        ensures { (result.0 ≡ at box_order self.now.called) × (result.0 < 16) }
+    {
+        Position::listed(self.order[self.called])
+    }
+
+    fn next(self) -> Option<Turn<'a>>
+        ensures { MatchOption result (self.entry.called ≡ 15) (λ next. next.called ≡ self.entry.called + 1) }
+    {
+        let Turn { order, called } = self;
+        if called < 15 {
+            Some(Turn {
+                order,
+                called: called + 1,
+            })
+        } else {
+            None
+        }
     }
 }
 

@@ -2,6 +2,7 @@
 // a last one, where all of them could be written. Where the reader refuses the sheet, its number alone.
 #![tactic(auto)]
 
+use lines::page::Page;
 use std::io;
 use std::io::Print;
 
@@ -24,15 +25,30 @@ fn print(rt: &impl Print, table: [u8; 16]) -> io::Result<()> {
     let triples = beside::triples();
     let (triples, _) = triples.as_chunks::<3>();
     let (counts, _) = lines.as_chunks::<8>();
-    // There are 56 triples to a byte, and sixteen bytes to a row.
-    for (k, [n0, n1, n2, n3, n4, n5, n6, n7]) in counts.iter().enumerate() {
-        let row = k / 56 / 16 + 1;
-        let byte = k / 56 % 16;
-        let [a, b, c] = triples[k % 56];
-        print!(rt; "{row} {byte} {a} {b} {c} {n0} {n1} {n2} {n3} {n4} {n5} {n6} {n7}\n")?;
+    // There are sixteen bytes to a row, and 56 triples to a byte. The lines of a byte go out in one write.
+    for (row, counts) in (1u8..8).zip(counts.chunks(16 * 56)) {
+        for (byte, counts) in (0u8..16).zip(counts.chunks(56)) {
+            let mut page = Page::empty();
+            for (triple, counts) in triples.iter().zip(counts) {
+                lay_line(&mut page, row, byte, triple, counts);
+            }
+            rt.write_all(page.text())?;
+        }
     }
     let even = summary.even;
     let lowest = summary.lowest;
     let highest = summary.highest;
     print!(rt; "{even} {lowest} {highest}\n")
+}
+
+fn lay_line(page: &mut Page, row: u8, byte: u8, triple: &[u8; 3], counts: &[u8; 8]) {
+    page.number(row);
+    page.number(byte);
+    for bit in triple {
+        page.number(*bit);
+    }
+    for n in counts {
+        page.number(*n);
+    }
+    page.end_line();
 }

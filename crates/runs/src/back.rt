@@ -1,4 +1,4 @@
-// Masked decryption, made of the steps alone: recorded, where each state is written to its part of the record, and unrecorded.
+// Masked decryption, made of the steps alone: recorded, where each step is lent its part of the record and fills it, and unrecorded.
 ghost use Rattle.std.specs.Prelude.{◌≡◌, List, ℕ, ◌+◌, ◌-◌, ◌*◌, ◌/◌, ◌%◌, ◌<◌, ◌≤◌, length};
 ghost use Rattle.aes.specs.State.{inv_shift_rows, inv_mix_columns};
 ghost use Rattle.aes.specs.Key.{round_key};
@@ -59,7 +59,7 @@ pub fn opened_recorded(block: Block, w: &Schedule, t: &Decryption, first: Label,
     uncover_plain(s, &t.laid, &mut states[a..e]);
 }
 
-// The step at point m after the covered block, six to a round. The last point uncovers, and is apart.
+// The step at point m after the covered block, which fills the part that it is lent: six to a round. The last point uncovers, and is apart.
 fn point(s: Covered, w: &Schedule, t: &Decryption, m: usize, part: &mut [u8]) -> Covered
     requires { (m + 1 < 6 * w.now.rounds) × (s.round.0 + (m + 2) / 6 ≡ w.now.rounds) × (length part.old ≡ 16) }
     ensures { ((o : ℕ) (end : List ℕ) → Behind o w.now t.now s → (result.bytes ≡ back w.now t.now o end (back_point_after m) s.bytes) × Behind o w.now t.now result) × (result.round.0 + (m + 3) / 6 ≡ w.now.rounds) × (part.new ≡ result.bytes) }
@@ -69,6 +69,7 @@ fn point(s: Covered, w: &Schedule, t: &Decryption, m: usize, part: &mut [u8]) ->
     next
 }
 
+// What the step at point m makes of the state.
 fn step(s: Covered, w: &Schedule, t: &Decryption, m: usize) -> Covered
     requires { (m + 1 < 6 * w.now.rounds) × (s.round.0 + (m + 2) / 6 ≡ w.now.rounds) }
     ensures { ((o : ℕ) (end : List ℕ) → Behind o w.now t.now s → (result.bytes ≡ back w.now t.now o end (back_point_after m) s.bytes) × Behind o w.now t.now result) × (result.round.0 + (m + 3) / 6 ≡ w.now.rounds) }

@@ -1,4 +1,4 @@
-// Masked runs, made of the steps alone: recorded, where each state is written to its part of the record, and unrecorded.
+// Masked runs, made of the steps alone: recorded, where each step is lent its part of the record and fills it, and unrecorded.
 ghost use Rattle.std.specs.Prelude.{◌≡◌, List, ℕ, ◌+◌, ◌*◌, ◌/◌, ◌%◌, ◌<◌, length};
 ghost use Rattle.aes.specs.State.{shift_rows, mix_columns};
 ghost use Rattle.aes.specs.Key.{round_key};
@@ -51,7 +51,8 @@ pub fn unrecorded(block: Block, w: &Schedule, t: &Encryption, first: Label, outp
     uncover(v, w, &t.laid, output);
 }
 
-// The step at point m after the covered block, five to a round; the last round is closed. The last point uncovers, and is apart.
+// The step at point m after the covered block, which fills the part that it is lent: five to a round, of which the last is closed. The last
+// point uncovers, and is apart.
 fn point(s: Covered, w: &Schedule, t: &Encryption, m: usize, part: &mut [u8]) -> Covered
     requires { (m + 1 < 5 * w.now.rounds) × (s.round.0 ≡ (m + 3) / 5) × (length part.old ≡ 16) }
     ensures { ((o : ℕ) (end : List ℕ) → Forth o t.now s → (result.bytes ≡ forth w.now t.now o end (point_after w.now.rounds m) s.bytes) × Forth o t.now result) × (result.round.0 ≡ (m + 4) / 5) × (part.new ≡ result.bytes) }
@@ -61,6 +62,7 @@ fn point(s: Covered, w: &Schedule, t: &Encryption, m: usize, part: &mut [u8]) ->
     next
 }
 
+// What the step at point m makes of the state.
 fn step(s: Covered, w: &Schedule, t: &Encryption, m: usize) -> Covered
     requires { (m + 1 < 5 * w.now.rounds) × (s.round.0 ≡ (m + 3) / 5) }
     ensures { ((o : ℕ) (end : List ℕ) → Forth o t.now s → (result.bytes ≡ forth w.now t.now o end (point_after w.now.rounds m) s.bytes) × Forth o t.now result) × (result.round.0 ≡ (m + 4) / 5) }

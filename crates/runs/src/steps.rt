@@ -1,7 +1,7 @@
 // The steps of every masked run, one for each kind of recorded point; every key is added by one, and so is every compensation and
-// correction. Each takes a state as it is covered, and gives the next. `cover` alone takes the bare block, and `uncover` and
-// `uncover_plain` alone give no state: the finished block stands in the part that they are lent. A step has a function of its own even
-// where two are alike, since tools/steps follows each by its name, and every call to a function that it names.
+// correction. Each takes a state as it is covered, and gives the next. `cover` and `cover_first` alone take the bare block, and
+// `uncover` and `uncover_plain` alone give no state: the finished block stands in the part that they are lent. A step has a function of
+// its own even where two are alike, since tools/steps follows each by its name, and every call to a function that it names.
 ghost use Rattle.std.specs.Prelude.{◌≡◌, ◌+◌, ◌-◌, ◌%◌, ◌<◌, ◌≤◌, length};
 ghost use Rattle.aes.specs.State.{shift_rows, mix_columns, inv_shift_rows, inv_mix_columns};
 ghost use Rattle.aes.specs.Key.{round_key};
@@ -54,7 +54,7 @@ pub(crate) fn cover(block: Block, laid: &Laid, first: Label, round: Round) -> Co
     Covered {
         label: first,
         round: round,
-        bytes: block.under(laid, first),
+        bytes: block.under(laid.masks, laid.covers, first),
     }
 }
 

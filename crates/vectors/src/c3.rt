@@ -18,9 +18,9 @@ fn found(place: usize) -> Option<[u8; 16]> {
     let mut schedule = [0; 240];
     aes::expand_key(&KEY, &mut schedule).ok()?;
     if SCHEDULED <= place {
-        return state_at(&schedule, place - SCHEDULED);
+        return Some(state_at(&schedule, place - SCHEDULED));
     }
     let mut record = [0; 1136];
     aes::record_plain(&schedule, &block(Way::Encrypt), &mut record).ok()?;
-    state_at(&record, place)
+    Some(state_at(&record, place))
 }

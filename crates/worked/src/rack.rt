@@ -1,45 +1,38 @@
 // A pipe's key made by the rack: the key and block of FIPS 197, C.3, expanded, encrypted, recorded and decrypted.
 use std::io::Print;
-use std::{fmt, io};
 
-// Two digits a byte.
-#[derive(Clone, Copy)]
-struct Hex<'a>(&'a [u8]);
-
-impl fmt::Display for Hex<'_> {
-    fn fmt<W: fmt::Write>(&self, f: &mut fmt::Formatter<W>) -> fmt::Result {
-        for byte in self.0 {
-            write!(f, "{byte:02x}")?;
-        }
-        Ok(())
-    }
-}
-
-pub fn job(rt: &impl Print) -> io::Result<()> {
+pub fn job(rt: &impl Print) {
     let key =
         b"\x00\x01\x02\x03\x04\x05\x06\x07\x08\x09\x0a\x0b\x0c\x0d\x0e\x0f\x10\x11\x12\x13\x14\x15\x16\x17\x18\x19\x1a\x1b\x1c\x1d\x1e\x1f";
     let block = b"\x00\x11\x22\x33\x44\x55\x66\x77\x88\x99\xaa\xbb\xcc\xdd\xee\xff";
     let mut schedule = [0; 240];
     let _ = aes::expand_key(key, &mut schedule);
-    print!(rt; "The rack's job on the example of FIPS 197, C.3: bytes in hex\n\n")?;
-    print!(rt; "  key         {}\n", Hex(key))?;
-    print!(rt; "  block       {}\n", Hex(block))?;
-    states(rt, &schedule, block)?;
-    crossed(rt, &schedule, block)
+    let _ = print!(rt;
+        "The rack's job on the example of FIPS 197, C.3: bytes in hex\n\n  key         "
+    );
+    hex(rt, key);
+    let _ = print!(rt; "\n  block       ");
+    hex(rt, block);
+    let _ = print!(rt; "\n");
+    states(rt, &schedule, block);
+    crossed(rt, &schedule, block);
 }
 
 // Encrypted, and decrypted again.
-fn crossed(rt: &impl Print, schedule: &[u8], block: &[u8]) -> io::Result<()> {
+fn crossed(rt: &impl Print, schedule: &[u8], block: &[u8]) {
     let mut there = [0; 16];
     let mut back = [0; 16];
     let _ = aes::encrypt(schedule, block, &mut there);
     let _ = aes::decrypt(schedule, &there, &mut back);
-    print!(rt; "  ciphertext  {}\n", Hex(&there))?;
-    print!(rt; "  decrypted   {}\n", Hex(&back))
+    let _ = print!(rt; "  ciphertext  ");
+    hex(rt, &there);
+    let _ = print!(rt; "\n  decrypted   ");
+    hex(rt, &back);
+    let _ = print!(rt; "\n");
 }
 
 // The 71 recorded states, five to a round.
-fn states(rt: &impl Print, schedule: &[u8], block: &[u8]) -> io::Result<()> {
+fn states(rt: &impl Print, schedule: &[u8], block: &[u8]) {
     let mut record = [0; 1136];
     let _ = aes::record_plain(schedule, block, &mut record);
     let (states, _) = record.as_chunks::<16>();
@@ -53,7 +46,15 @@ fn states(rt: &impl Print, schedule: &[u8], block: &[u8]) -> io::Result<()> {
             (_, 4) => "   mixed      ",
             _ => "   end        ",
         };
-        print!(rt; "{name}{}\n", Hex(state))?;
+        let _ = print!(rt; "{name}");
+        hex(rt, state);
+        let _ = print!(rt; "\n");
     }
-    Ok(())
+}
+
+// Two digits a byte.
+fn hex(rt: &impl Print, bytes: &[u8]) {
+    for byte in bytes {
+        let _ = print!(rt; "{byte:02x}");
+    }
 }

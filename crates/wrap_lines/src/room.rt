@@ -28,11 +28,10 @@ impl Room {
         (Room { size, bytes }, answer)
     }
 
-    pub fn untouched(size: usize) -> Room
-        requires { size ≤ 264 }
-    {
+    // All of the room at most.
+    pub fn untouched(size: usize) -> Room {
         Room {
-            size,
+            size: size.min(ROOM),
             bytes: [UNTOUCHED; ROOM],
         }
     }

@@ -1,11 +1,22 @@
--- The part of the covers that the label names.
+-- Each turn fills one more byte.
 -- Assumes nothing.
-use mathlib.Core.Path.{◌∙◌}
-use native.Mathlib.Omega.{arith}
+use mathlib.Core.Path.{refl}
+use borrow.Author.Rules.{rules}
 use Rattle.aes.specs.Key.{round_key}
-use Rattle.masks.proofs.Copied.{sixteen}
+use Rattle.aes.proofs.Fill.{filled_none, filled_more, filled_all}
 use Rattle.masks.proofs.constants.cover.Goals as goal
+
+pub loop-i-init : goal.loop-i-init
+unfolding round_key
+loop-i-init c =
+    filled_none refl
+
+pub loop-i-preserved : goal.loop-i-preserved
+unfolding round_key
+loop-i-preserved c =
+    filled_more c.loop-i.invariant (search rules) refl
 
 pub returns : goal.returns
 unfolding round_key
-returns c = c.copy_from_slice.ensures.after ∙ sixteen c.args.covers.now _ (omega arith)
+returns c =
+    filled_all c.loop-i.invariant (search rules)

@@ -6,14 +6,14 @@ use mathlib.Core.List.{List}
 use Prim.Native.Nat.{ℕ, ◌≤◌}
 use native.Mathlib.Omega.{arith}
 use borrow.Author.Rules.{rules}
-use borrow.Author.Tests.{le-leb, lt-leb}
+use borrow.Author.Tests.{eq-eqb, le-leb, lt-leb}
 use lib.Dec.{leb}
 use lib.ListN.{length}
 use Rattle.aes.specs.Byte.{place}
 use Rattle.bank.specs.Places.{tag, held, lowest}
 use Rattle.bank.specs.Calls.{placed}
 use Rattle.bank.proofs.Walk.{found}
-use Rattle.bank.proofs.Admitted.{upto, is_whole}
+use Rattle.bank.proofs.Admitted.{upto}
 use Rattle.bank.proofs.keys.Bank.place.Goals as goal
 
 pub returns-in_default : goal.returns-in_default
@@ -26,7 +26,7 @@ returns-in_default c =
     let size : length tags ≡ 16 = search rules in
     let none : place 0 tags ≡ 16 = rw c.in_default.is at (found 0 tags size c.place_of.ensures) in
     let full : leb (place 0 tags) 15 ≡ false = lt-leb (place 0 tags) 15 (omega arith) in
-    simp (le-leb a.party 1 known, is_whole a.schedule.now c.in_ok-schedule.ensures.told, upto 11 (c.held.ensures ∙ ap (λ (x : ℕ). held x tags) same) c.if-held-gt11.false, full)
+    simp (le-leb a.party 1 known, eq-eqb (length a.schedule.now) 240 (search rules), upto 11 (c.held.ensures ∙ ap (λ (x : ℕ). held x tags) same) c.if-held-gt11.false, full)
 
 pub returns : goal.returns
 returns c =
@@ -39,5 +39,5 @@ returns c =
     let there = rw c.in-Some.is at (found 0 tags size c.place_of.ensures) in
     let n : c.lowest-number.result ≡ lowest a.party tags = c.lowest-number.ensures.0 ∙ ap (λ (x : ℕ). lowest x tags) same in
     let t : c.tag.result ≡ tag a.party (lowest a.party tags) = c.tag.ensures ∙ (λ i. tag (same i) (n i)) in
-    (λ i. (0, (n i, placed a.self.now (there.1 i) (t i) (record { bytes = c.in_ok-schedule.ensures.same i }))))
-    ∙ simp (le-leb a.party 1 known, is_whole a.schedule.now c.in_ok-schedule.ensures.told, upto 11 (c.held.ensures ∙ ap (λ (x : ℕ). held x tags) same) c.if-held-gt11.false, upto 15 there.1 (omega (arith, there.0)))
+    (λ i. (0, (n i, placed a.self.now (there.1 i) (t i) (record { bytes = c.copy_from_slice.ensures.after i }))))
+    ∙ simp (le-leb a.party 1 known, eq-eqb (length a.schedule.now) 240 (search rules), upto 11 (c.held.ensures ∙ ap (λ (x : ℕ). held x tags) same) c.if-held-gt11.false, upto 15 there.1 (omega (arith, there.0)))

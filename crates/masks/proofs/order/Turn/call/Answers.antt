@@ -14,12 +14,12 @@ boxed_at : (b p s : List ℕ) (i : ℕ) → i < 16 → at (boxed_by b p s) i ≡
 unfolding boxed_by table
 boxed_at b p s i h = table_at (λ i. at b (at p i + at s i)) 16 i h
 
-pub returns : goal.returns
-returns c =
+pub returns-clause-answered : goal.returns-clause-answered
+returns-clause-answered c =
     let a = c.args in
-    let p : ℕ = a.self.position.0 in
+    let p : ℕ = c.position-p.result.0 in
     let boxed : List ℕ = boxed_by a.boxes.now (places_at a.places.now a.l.0) a.s.now in
     let answer : c.entry.result ≡ at boxed p =
     c.entry.ensures ∙ (λ j. at a.boxes.now (c.over.ensures j + at a.s.now (c.read-i.ensures j)))
-    ∙ sym (boxed_at a.boxes.now (places_at a.places.now a.l.0) a.s.now p a.self.in_state) in
-    λ k e. (λ j. set a.t.now (c.read-i.ensures j) (answer j)) ∙ ap (λ (i : ℕ). set a.t.now i (at boxed i)) e
+    ∙ sym (boxed_at a.boxes.now (places_at a.places.now a.l.0) a.s.now p c.position-p.ensures.1) in
+    (λ j. set a.t.now (c.read-i.ensures j) (answer j)) ∙ ap (λ (i : ℕ). set a.t.now i (at boxed i)) c.position-p.ensures.0

@@ -7,11 +7,11 @@ use Rattle.aes.specs.Key.{round_key}
 use Rattle.masks.proofs.Rows.{cover_at}
 use Rattle.lent.specs.Started.{offsets_of}
 use Rattle.lent.proofs.Whole.{mask_whole}
-use Rattle.lent.proofs.tables.Laid.mask.Goals as goal
+use Rattle.lent.proofs.given.Masks.mask.Goals as goal
 
 pub returns : goal.returns
 returns c =
-    let t = c.args.self.now in
+    let m = c.args.self in
     let l : ℕ = c.args.l.0 in
-    c.sixteen.ensures ∙ ap₂ round_key t.covered (ap (λ (k : ℕ). k % 16) c.read.ensures) ∙ cover_at t.masks.bytes (offsets_of t.masks) (l % 16) (omega arith)
-    ∙ mask_whole t.masks.bytes (offsets_of t.masks) l
+    c.sixteen.ensures ∙ ap₂ round_key c.requires (ap (λ (k : ℕ). k % 16) c.read.ensures) ∙ cover_at m.bytes (offsets_of m) (l % 16) (omega arith)
+    ∙ mask_whole m.bytes (offsets_of m) l
