@@ -1,4 +1,5 @@
 pub mod Whole
 pub mod Owned
+pub mod Laid
 pub mod Begun
 pub mod Unique

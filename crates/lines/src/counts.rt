@@ -1,5 +1,5 @@
 // What was run, what differed and what could not be read, up to the line that a program has come to, and the table of it.
-use crate::page::Page;
+use crate::page::{Page, Pages};
 use std::fmt;
 use std::fmt::Write;
 use std::io::Print;
@@ -73,15 +73,22 @@ impl Counts {
         }
     }
 
-    // Prints the table, in one write: a header, the rows by their names and one for all, with columns that end at byte 49 and 58, and a
+    // Prints the table, however long: a header, the rows by their names and one for all, with columns that end at byte 49 and 58, and a
     // last line for what could not be read.
     pub fn print(&self, rt: &impl Print, title: &str, names: &[&str]) {
+        let mut pages = Pages::of(rt);
+        let _ = self.lay(&mut pages, title, names);
+        pages.end();
+    }
+
+    // The same in one write. What a page has no room for is left out, and so is what the write leaves.
+    pub fn print_page(&self, rt: &impl Print, title: &str, names: &[&str]) {
         let mut page = Page::empty();
         let _ = self.lay(&mut page, title, names);
         let _ = rt.write_some(page.text());
     }
 
-    fn lay(&self, page: &mut Page, title: &str, names: &[&str]) -> fmt::Result {
+    fn lay(&self, page: &mut impl Write, title: &str, names: &[&str]) -> fmt::Result {
         write!(page, "{title:<41}      run   differ\n")?;
         let mut all = Tally::default();
         for (name, tally) in names.iter().zip(self.rows.iter()) {
@@ -97,7 +104,7 @@ impl Counts {
     }
 }
 
-fn lay_row(page: &mut Page, name: &str, tally: Tally) -> fmt::Result {
+fn lay_row(page: &mut impl Write, name: &str, tally: Tally) -> fmt::Result {
     let run = tally.run;
     let differ = tally.differ;
     write!(page, "  {name:<39}{run:>9}{differ:>9}\n")

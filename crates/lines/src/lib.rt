@@ -10,5 +10,7 @@ pub mod program;
 pub mod reply;
 pub mod row;
 pub mod source;
+#[cfg(test)]
+mod tests;
 pub mod text;
 pub mod vector;

@@ -1,8 +1,9 @@
-// Text that goes out in one write.
-ghost use Rattle.std.specs.Prelude.{◌≡◌, [], ◌∷◌, ◌++◌, ◌+◌, ◌-◌, ◌≤◌, ◌<◌, take};
+// Text that goes out page by page: a page is one write.
+ghost use Rattle.std.specs.Prelude.{◌≡◌, [], ◌∷◌, ◌++◌, ◌+◌, ◌-◌, ◌≤◌, ◌<◌, leb, take};
 ghost use Rattle.lines.specs.Page.{digit, spelled};
 
 use std::fmt;
+use std::io::Print;
 
 // Room for the longest page of a program: 56 lines of thirteen numbers, each of three digits and a space.
 const ROOM: usize = 2912;
@@ -44,6 +45,13 @@ impl Page {
         }
     }
 
+    // Whether there is no room for another byte.
+    fn is_full(&self) -> bool
+        ensures { result ≡ leb 2912 self.now.end }
+    {
+        ROOM <= self.end
+    }
+
     pub fn text(&self) -> &[u8]
         ensures { result.now ≡ take self.now.end self.now.room }
     {
@@ -83,6 +91,42 @@ impl fmt::Write for Page {
     fn write_str(&mut self, s: &str) -> fmt::Result {
         for byte in s.as_bytes() {
             self.push(*byte);
+        }
+        Ok(())
+    }
+}
+
+// Text of any length: a page that is full goes out, and the next begins. What cannot be written is left out.
+#[derive(Drop)]
+pub(crate) struct Pages<'a, R: Print> {
+    rt: &'a R,
+    page: Page,
+}
+
+impl<'a, R: Print> Pages<'a, R> {
+    pub(crate) fn of(rt: &'a R) -> Pages<'a, R>
+        ensures { result.page.end ≡ 0 }
+    {
+        Pages {
+            rt,
+            page: Page::empty(),
+        }
+    }
+
+    // What stands on the last page goes out too.
+    pub(crate) fn end(self) {
+        let _ = self.rt.write_all(self.page.text());
+    }
+}
+
+impl<R: Print> fmt::Write for Pages<'_, R> {
+    fn write_str(&mut self, s: &str) -> fmt::Result {
+        for byte in s.as_bytes() {
+            if self.page.is_full() {
+                let _ = self.rt.write_all(self.page.text());
+                self.page = Page::empty();
+            }
+            self.page.push(*byte);
         }
         Ok(())
     }

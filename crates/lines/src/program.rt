@@ -34,5 +34,5 @@ pub fn run<F: Fn(Source, &[u8], &[u8], &mut Counts) -> Option<()>>(
         };
         counts.report(rt, read);
     }
-    counts.print(rt, title, rows);
+    counts.print_page(rt, title, rows);
 }

@@ -103,6 +103,14 @@ first_table f x lt =
     let high : x / 256 ≡ 0 = omega (arith, lt) in
     ap f (sym (ap₂ (◌⊕◌) low high ∙ xor_zero x))
 
+-- the second has its neighbours exchanged
+pub second_table : (f : ℕ → ℕ) (x : ℕ) → x < 256 → f (x ⊕ 1) ≡ turned_table f (256 + x)
+unfolding turned_table
+second_table f x lt =
+    let low : (256 + x) % 256 ≡ x = omega (arith, lt) in
+    let high : (256 + x) / 256 ≡ 1 = omega (arith, lt) in
+    ap f (sym (ap₂ (◌⊕◌) low high))
+
 -- where an entry is taken from
 abbrev index : ℕ → ℕ
 index q = (q % 256) ⊕ (q / 256)
